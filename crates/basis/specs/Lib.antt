@@ -1,0 +1,4 @@
+pub mod Pick
+pub mod Answer
+pub mod Number
+pub mod Room

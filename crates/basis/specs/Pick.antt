@@ -1,0 +1,11 @@
+-- The choice of a case by a test.
+use mathlib.Core.Bool.{Bool, true, false}
+
+abbrev pub pick : {A : Type 0} → Bool → A → A → A
+pick true a b = a
+pick false a b = b
+
+-- both tests hold
+abbrev pub both : Bool → Bool → Bool
+both true b = b
+both false b = false

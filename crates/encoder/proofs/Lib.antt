@@ -1,0 +1,4 @@
+pub mod Wells
+pub mod Back
+pub mod Forth
+pub mod Trips

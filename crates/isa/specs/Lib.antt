@@ -1,0 +1,5 @@
+pub mod Op
+pub mod Shape
+pub mod Decode
+pub mod Refusals
+pub mod Rows

@@ -1,0 +1,46 @@
+// What an instruction is: how it is read, the values that it takes and pushes, and its way.
+mod decoder;
+mod shapes;
+
+pub use decoder::decode;
+pub use shapes::depth_after;
+pub use shapes::pushed_of;
+pub use shapes::taken_of;
+pub use shapes::way_of;
+
+// An instruction as a value. What the form lacks is 0. Bit i of the flags is set where value i has two bytes.
+pub struct Instruction {
+    pub code: u8,
+    pub number: u16,
+    pub count: u8,
+    pub flags: u8,
+    pub v0: u16,
+    pub v1: u16,
+    pub v2: u16,
+    pub v3: u16,
+}
+
+// What stands at an address: an instruction and its length, or a refusal's number.
+pub enum Decoded {
+    Read(Instruction, usize),
+    Refused(usize),
+}
+
+// Where an instruction leads: nowhere, to the next, to an address, to the next or an address, to a subroutine, where the
+// stack says, or to a system or an extension function.
+pub enum Way {
+    Stop,
+    Next,
+    Jump(u16),
+    Branch(u16),
+    Call(u16),
+    Taken,
+    System(u16),
+    Extension(u16),
+}
+
+// What the stack check finds: the depth afterwards, or a refusal's number.
+pub enum Stack {
+    Depth(usize),
+    Refused(usize),
+}

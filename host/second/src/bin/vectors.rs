@@ -1,0 +1,73 @@
+//! Writes the cases on which the two implementations are compared, with this
+//! implementation's answers, or checks that they are as they would be written:
+//!
+//! ```text
+//! vectors isa DIR            the decoder and the encoder
+//! vectors machine DIR        the run
+//! vectors check isa DIR
+//! vectors check machine DIR
+//! ```
+//!
+//! DIR/stdin has the cases, DIR/stdout the answers, one line a case.
+
+use std::path::Path;
+use std::process::ExitCode;
+use std::{env, fs, io};
+
+use second::cases::{isa, machine, Vectors};
+
+fn main() -> ExitCode {
+    let arguments: Vec<String> = env::args().skip(1).collect();
+    let arguments: Vec<&str> = arguments.iter().map(String::as_str).collect();
+    let done = match arguments[..] {
+        ["check", kind, directory] => made(kind).and_then(|it| check(&it, directory.as_ref())),
+        [kind, directory] => made(kind).and_then(|it| write(&it, directory.as_ref())),
+        _ => Err("usage: vectors [check] isa|machine DIR".to_string()),
+    };
+    match done {
+        Ok(()) => ExitCode::SUCCESS,
+        Err(reason) => {
+            eprintln!("{reason}");
+            ExitCode::FAILURE
+        }
+    }
+}
+
+/// The cases of a kind.
+fn made(kind: &str) -> Result<Vectors, String> {
+    match kind {
+        "isa" => Ok(isa::vectors()),
+        "machine" => Ok(machine::vectors()),
+        _ => Err(format!("no cases of kind {kind}")),
+    }
+}
+
+/// Writes both files and prints the counts.
+fn write(vectors: &Vectors, directory: &Path) -> Result<(), String> {
+    let failed = |error: io::Error| format!("{}: {error}", directory.display());
+    fs::create_dir_all(directory).map_err(failed)?;
+    fs::write(directory.join("stdin"), &vectors.stdin).map_err(failed)?;
+    fs::write(directory.join("stdout"), &vectors.stdout).map_err(failed)?;
+    println!(
+        "{} cases, {} ok, {} refused",
+        vectors.cases(),
+        vectors.answers("ok "),
+        vectors.answers("refused ")
+    );
+    Ok(())
+}
+
+/// Compares both files with what would be written.
+fn check(vectors: &Vectors, directory: &Path) -> Result<(), String> {
+    for (name, made) in [
+        ("stdin", vectors.stdin.as_slice()),
+        ("stdout", vectors.stdout.as_bytes()),
+    ] {
+        let path = directory.join(name);
+        let found = fs::read(&path).map_err(|error| format!("{}: {error}", path.display()))?;
+        if found != made {
+            return Err(format!("{} is not as it would be written", path.display()));
+        }
+    }
+    Ok(())
+}

@@ -1,0 +1,67 @@
+//! The cases on which the two implementations are compared: written down in a
+//! compact binary form, one after the other, with this implementation's answers
+//! as lines of text, one a case. The same call always makes the same cases.
+
+pub mod isa;
+pub mod machine;
+
+/// Cases and their answers.
+#[derive(Default)]
+pub struct Vectors {
+    /// The cases.
+    pub stdin: Vec<u8>,
+    /// The answers, one line each.
+    pub stdout: String,
+}
+
+impl Vectors {
+    /// Adds a case and its answer.
+    fn add(&mut self, case: &[u8], answer: &str) {
+        self.stdin.extend(case);
+        self.stdout.push_str(answer);
+        self.stdout.push('\n');
+    }
+
+    /// How many cases there are.
+    pub fn cases(&self) -> usize {
+        self.answers("")
+    }
+
+    /// How many answers begin with these words.
+    pub fn answers(&self, words: &str) -> usize {
+        self.stdout
+            .lines()
+            .filter(|line| line.starts_with(words))
+            .count()
+    }
+}
+
+/// A repeatable source of varied numbers (a linear congruential generator, of
+/// which the upper bits are used).
+struct Varied(u64);
+
+impl Varied {
+    /// A number from 0 to `limit` - 1.
+    fn below(&mut self, limit: usize) -> usize {
+        self.0 = self
+            .0
+            .wrapping_mul(6_364_136_223_846_793_005)
+            .wrapping_add(1_442_695_040_888_963_407);
+        (self.0 >> 33) as usize % limit
+    }
+
+    fn byte(&mut self) -> u8 {
+        self.below(256) as u8
+    }
+
+    fn bytes(&mut self, count: usize) -> Vec<u8> {
+        (0..count).map(|_| self.byte()).collect()
+    }
+
+    fn one_of<T: Copy>(&mut self, choices: &[T]) -> T {
+        choices[self.below(choices.len())]
+    }
+}
+
+/// Numbers at the edges of one and of two bytes.
+const EDGES: [u16; 5] = [0, 1, 255, 256, 65_535];

@@ -1,0 +1,38 @@
+//! The numbers of 01's table "Faults and refusals" and the sizes of its section
+//! "Memories and state", each under one name.
+
+/// Address at or past the program's end.
+pub const PAST_END: u32 = 1;
+/// Illegal first byte, flags or shift byte.
+pub const ILLEGAL: u32 = 2;
+/// Operands cut by the program's end.
+pub const CUT: u32 = 3;
+/// Fewer values than are taken.
+pub const TOO_FEW: u32 = 4;
+/// Depth less taken plus pushed exceeds the cells.
+pub const TOO_MANY: u32 = 5;
+/// Data range.
+pub const DATA_RANGE: u32 = 6;
+/// Program range in pcopy.
+pub const PROGRAM_RANGE: u32 = 7;
+/// No such function.
+pub const NO_FUNCTION: u32 = 8;
+/// Program over size.
+pub const PROGRAM_SIZE: u32 = 20;
+/// Data over size.
+pub const DATA_SIZE: u32 = 21;
+/// Cells over size.
+pub const CELLS_SIZE: u32 = 22;
+/// State deeper than the stack.
+pub const TOO_DEEP: u32 = 24;
+/// Output longer than the room lent.
+pub const ROOM: u32 = 25;
+/// The encoder's refusal of an instruction that has no bytes.
+pub const NOT_ENCODABLE: u32 = 26;
+
+/// The most bytes a program may have.
+pub const PROGRAM_BYTES: usize = 16_384;
+/// The most bytes data memory may have.
+pub const DATA_BYTES: usize = 65_535;
+/// The most cells a stack may have.
+pub const STACK_CELLS: usize = 1_024;
