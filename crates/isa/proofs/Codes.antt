@@ -30,9 +30,9 @@ abbrev pub isNext : Way → Bool
 isNext Stop = false
 isNext Next = true
 isNext (Jump x) = false
-isNext (Branch x) = false
+isNext (Branch t x) = false
 isNext (Call x) = false
-isNext Taken = false
+isNext (Taken r) = false
 isNext (System x) = false
 isNext (Extension x) = false
 
@@ -40,9 +40,9 @@ pub next-way : (w : Way) → isNext w ≡ true → Next ≡ w
 next-way Stop e = absurd (false-true e)
 next-way Next e = refl
 next-way (Jump x) e = absurd (false-true e)
-next-way (Branch x) e = absurd (false-true e)
+next-way (Branch t x) e = absurd (false-true e)
 next-way (Call x) e = absurd (false-true e)
-next-way Taken e = absurd (false-true e)
+next-way (Taken r) e = absurd (false-true e)
 next-way (System x) e = absurd (false-true e)
 next-way (Extension x) e = absurd (false-true e)
 

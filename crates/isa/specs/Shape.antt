@@ -1,90 +1,97 @@
 -- What the step and the verifier share: values taken, values pushed, the way of an operation, and the one stack check.
 use Prim.Native.Nat.{ℕ, _+_, _-_}
+use mathlib.Core.Bool.{true, false}
 use mathlib.Core.List.{List}
 use lib.ListN.{length}
 use lib.Dec.{ltb, eqb}
 use Rattle.basis.specs.Pick.{pick}
 use Rattle.basis.specs.Answer.{Answer, given, refused}
-use Rattle.isa.specs.Op.{Op, Halt, Discard, DataCopy, ProgramCopy, Swap, CallTaken, JumpTaken, BranchTaken, SystemTaken, ExtensionTaken, Two, TwoNumber, One, Load, Store, CallTo, JumpTo, BranchTo, SystemOf, ExtensionOf, Push, NoOp, opIn}
+use Rattle.isa.specs.Op.{Op, opIn}
+use Rattle.isa.specs.Op as op
+use Rattle.isa.specs.declared.Route.{Route}
+use Rattle.isa.specs.declared.Route.the-variants as route
 use Rattle.isa.specs.declared.Way.{Way}
 use Rattle.isa.specs.declared.Way.the-variants.{Stop, Next, Jump, Branch, Call, Taken, System, Extension}
 use Rattle.isa.specs.declared.Stack.{Stack}
 use Rattle.isa.specs.declared.Stack.the-variants as stack
 
+-- what a route takes besides its target: the condition of a branch
+abbrev pub routeTaken : Route → ℕ
+routeTaken route.Call = 0
+routeTaken route.Jump = 0
+routeTaken route.JumpIf = 1
+routeTaken route.JumpIfNot = 1
+routeTaken route.System = 0
+routeTaken route.Extension = 0
+
+-- "call: push the address of the next instruction"
+abbrev pub routePushed : Route → ℕ
+routePushed route.Call = 1
+routePushed route.Jump = 0
+routePushed route.JumpIf = 0
+routePushed route.JumpIfNot = 0
+routePushed route.System = 0
+routePushed route.Extension = 0
+
 -- how many values an operation takes
 abbrev pub takenOf : Op → ℕ
-takenOf Halt = 0
-takenOf Discard = 1
-takenOf DataCopy = 3
-takenOf ProgramCopy = 3
-takenOf Swap = 2
-takenOf CallTaken = 1
-takenOf JumpTaken = 1
-takenOf (BranchTaken t) = 2
-takenOf SystemTaken = 1
-takenOf ExtensionTaken = 1
-takenOf (Two p) = 2
-takenOf (TwoNumber p x) = 1
-takenOf (One s) = 1
-takenOf (Load w n x) = n
-takenOf (Store w n x) = n + 1
-takenOf (CallTo x) = 0
-takenOf (JumpTo x) = 0
-takenOf (BranchTo t x) = 1
-takenOf (SystemOf x) = 0
-takenOf (ExtensionOf x) = 0
-takenOf (Push vs) = 0
-takenOf NoOp = 0
+takenOf op.Halt = 0
+takenOf op.Discard = 1
+takenOf op.DataCopy = 3
+takenOf op.ProgramCopy = 3
+takenOf op.Swap = 2
+takenOf (op.Taken r) = 1 + routeTaken r
+takenOf (op.Given r x) = routeTaken r
+takenOf (op.Two p) = 2
+takenOf (op.TwoNumber p x) = 1
+takenOf (op.One s) = 1
+takenOf (op.Load w n x) = n
+takenOf (op.Store w n x) = n + 1
+takenOf (op.Push vs) = 0
+takenOf op.NoOp = 0
 
 -- how many values it pushes; "A store pushes what it stored"
 abbrev pub pushedOf : Op → ℕ
-pushedOf Halt = 0
-pushedOf Discard = 0
-pushedOf DataCopy = 1
-pushedOf ProgramCopy = 1
-pushedOf Swap = 2
-pushedOf CallTaken = 1
-pushedOf JumpTaken = 0
-pushedOf (BranchTaken t) = 0
-pushedOf SystemTaken = 0
-pushedOf ExtensionTaken = 0
-pushedOf (Two p) = 1
-pushedOf (TwoNumber p x) = 1
-pushedOf (One s) = 1
-pushedOf (Load w n x) = 1
-pushedOf (Store w n x) = 1
-pushedOf (CallTo x) = 1
-pushedOf (JumpTo x) = 0
-pushedOf (BranchTo t x) = 0
-pushedOf (SystemOf x) = 0
-pushedOf (ExtensionOf x) = 0
-pushedOf (Push vs) = length vs
-pushedOf NoOp = 0
+pushedOf op.Halt = 0
+pushedOf op.Discard = 0
+pushedOf op.DataCopy = 1
+pushedOf op.ProgramCopy = 1
+pushedOf op.Swap = 2
+pushedOf (op.Taken r) = routePushed r
+pushedOf (op.Given r x) = routePushed r
+pushedOf (op.Two p) = 1
+pushedOf (op.TwoNumber p x) = 1
+pushedOf (op.One s) = 1
+pushedOf (op.Load w n x) = 1
+pushedOf (op.Store w n x) = 1
+pushedOf (op.Push vs) = length vs
+pushedOf op.NoOp = 0
 
--- where it leads; codes 05 to 0A take it from the stack
+-- where a route with the number x leads
+abbrev pub wayTo : Route → ℕ → Way
+wayTo route.Call x = Call x
+wayTo route.Jump x = Jump x
+wayTo route.JumpIf x = Branch true x
+wayTo route.JumpIfNot x = Branch false x
+wayTo route.System x = System x
+wayTo route.Extension x = Extension x
+
+-- where an operation leads
 abbrev pub wayOf : Op → Way
-wayOf Halt = Stop
-wayOf Discard = Next
-wayOf DataCopy = Next
-wayOf ProgramCopy = Next
-wayOf Swap = Next
-wayOf CallTaken = Taken
-wayOf JumpTaken = Taken
-wayOf (BranchTaken t) = Taken
-wayOf SystemTaken = Taken
-wayOf ExtensionTaken = Taken
-wayOf (Two p) = Next
-wayOf (TwoNumber p x) = Next
-wayOf (One s) = Next
-wayOf (Load w n x) = Next
-wayOf (Store w n x) = Next
-wayOf (CallTo x) = Call x
-wayOf (JumpTo x) = Jump x
-wayOf (BranchTo t x) = Branch x
-wayOf (SystemOf x) = System x
-wayOf (ExtensionOf x) = Extension x
-wayOf (Push vs) = Next
-wayOf NoOp = Next
+wayOf op.Halt = Stop
+wayOf op.Discard = Next
+wayOf op.DataCopy = Next
+wayOf op.ProgramCopy = Next
+wayOf op.Swap = Next
+wayOf (op.Taken r) = Taken r
+wayOf (op.Given r x) = wayTo r x
+wayOf (op.Two p) = Next
+wayOf (op.TwoNumber p x) = Next
+wayOf (op.One s) = Next
+wayOf (op.Load w n x) = Next
+wayOf (op.Store w n x) = Next
+wayOf (op.Push vs) = Next
+wayOf op.NoOp = Next
 
 -- the same by the code: a push of values pushes its count
 unfoldable pub takenIn : ℕ → ℕ

@@ -26,15 +26,26 @@ pub enum Decoded {
     Refused(usize),
 }
 
-// Where an instruction leads: nowhere, to the next, to an address, to the next or an address, to a subroutine, where the
-// stack says, or to a system or an extension function.
+// How an instruction leaves the straight line: 05 to 0A take their target from the stack, 3B to 40 and 55 to 5A have it
+// in the code.
+pub enum Route {
+    Call,
+    Jump,
+    JumpIf,
+    JumpIfNot,
+    System,
+    Extension,
+}
+
+// Where an instruction leads: nowhere, to the next, to an address, to an address or else to the next (with the outcome of
+// "not 0" at which it jumps), to a subroutine, where the stack says, or to a system or an extension function.
 pub enum Way {
     Stop,
     Next,
     Jump(u16),
-    Branch(u16),
+    Branch(bool, u16),
     Call(u16),
-    Taken,
+    Taken(Route),
     System(u16),
     Extension(u16),
 }

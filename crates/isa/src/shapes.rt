@@ -3,6 +3,7 @@ ghost use mathlib.Core.Path.{_≡_};
 ghost use lib.ListN.{getD};
 ghost use Rattle.isa.specs.Op.{plainOps, numberOps, NoOp};
 ghost use Rattle.isa.specs.Shape.{takenOf, takenIn, pushedIn, wayIn, depthAfter, stackAnswer};
+use crate::Route;
 use crate::Stack;
 use crate::Way;
 
@@ -134,22 +135,22 @@ pub fn way_of(code: u8, number: u16) -> Way
 {
     match code {
         0x00 => Way::Stop,
-        0x05 => Way::Taken,
-        0x06 => Way::Taken,
-        0x07 => Way::Taken,
-        0x08 => Way::Taken,
-        0x09 => Way::Taken,
-        0x0A => Way::Taken,
+        0x05 => Way::Taken(Route::Call),
+        0x06 => Way::Taken(Route::Jump),
+        0x07 => Way::Taken(Route::JumpIf),
+        0x08 => Way::Taken(Route::JumpIfNot),
+        0x09 => Way::Taken(Route::System),
+        0x0A => Way::Taken(Route::Extension),
         0x3B => Way::Call(number),
         0x3C => Way::Jump(number),
-        0x3D => Way::Branch(number),
-        0x3E => Way::Branch(number),
+        0x3D => Way::Branch(true, number),
+        0x3E => Way::Branch(false, number),
         0x3F => Way::System(number),
         0x40 => Way::Extension(number),
         0x55 => Way::Call(number),
         0x56 => Way::Jump(number),
-        0x57 => Way::Branch(number),
-        0x58 => Way::Branch(number),
+        0x57 => Way::Branch(true, number),
+        0x58 => Way::Branch(false, number),
         0x59 => Way::System(number),
         0x5A => Way::Extension(number),
         _ => Way::Next,

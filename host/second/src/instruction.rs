@@ -72,10 +72,7 @@ fn decode_values(opcode: &Opcode, bytes: &[u8]) -> Result<(Instruction, usize), 
     let mut values = [0; 4];
     for (value, wide) in values.iter_mut().zip(wide).take(count.into()) {
         let (own, rest) = operands.split_at(1 + usize::from(wide));
-        *value = own
-            .iter()
-            .rev()
-            .fold(0, |high, &low| high << 8 | u16::from(low));
+        *value = low_byte_first(own);
         operands = rest;
     }
     let instruction = Instruction {
@@ -91,6 +88,12 @@ fn decode_values(opcode: &Opcode, bytes: &[u8]) -> Result<(Instruction, usize), 
 /// 01: "The length is one, plus the count, plus the number of set flags."
 fn values_length(count: u8, flags: u8) -> usize {
     1 + usize::from(count) + flags.count_ones() as usize
+}
+
+/// The number that one or two bytes make, low byte first.
+pub fn low_byte_first(bytes: &[u8]) -> u16 {
+    let append = |high, &low| high << 8 | u16::from(low);
+    bytes.iter().rev().fold(0, append)
 }
 
 /// Writes an instruction at the beginning of the room and gives its length. 01:
@@ -140,12 +143,11 @@ fn bytes_of_values(opcode: &Opcode, instruction: &Instruction) -> Option<Vec<u8>
     if absent.iter().any(|&value| value != 0) {
         return None;
     }
-    let mut bytes = opcode.spell(
-        |letter| match FLAG_LETTERS.iter().position(|&l| l == letter) {
-            Some(place) => u16::from(flags >> place & 1),
-            None => u16::from(count - 1),
-        },
-    );
+    let field = |letter| match FLAG_LETTERS.iter().position(|&flag| flag == letter) {
+        Some(place) => u16::from(flags >> place & 1),
+        None => u16::from(count - 1),
+    };
+    let mut bytes = opcode.spell(field);
     for (place, value) in present.iter().enumerate() {
         let [low, high] = value.to_le_bytes();
         bytes.push(low);

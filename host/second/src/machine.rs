@@ -1,7 +1,7 @@
 //! The step and the run (01, "Memories and state", "Instructions" and "Faults
 //! and refusals").
 
-use crate::instruction::{decode, Instruction};
+use crate::instruction::{decode, low_byte_first, Instruction};
 use crate::numbers::{
     CELLS_SIZE, DATA_BYTES, DATA_RANGE, DATA_SIZE, ILLEGAL, NO_FUNCTION, PROGRAM_BYTES,
     PROGRAM_RANGE, PROGRAM_SIZE, STACK_CELLS, TOO_DEEP, TOO_FEW, TOO_MANY,
@@ -37,17 +37,19 @@ pub const FRESH: State = State {
     status: Status::Running,
 };
 
-/// Runs until the budget is used, or the machine halts or faults. Gives the
-/// refusal, if any, the number of steps taken, and the state reached. The
-/// refusals are looked for in every status, before a stopped state comes back as
-/// it was.
+/// What a run hands back: the refusal, if any, the number of steps taken, and the
+/// state reached.
+pub type Answer = (Option<u32>, u64, State);
+
+/// Runs until the budget is used, or the machine halts or faults. The refusals are
+/// looked for in every status, before a stopped state comes back as it was.
 pub fn run(
     program: &[u8],
     data: &mut [u8],
     cells: &mut [u16],
     state: State,
     budget: u32,
-) -> (Option<u32>, u64, State) {
+) -> Answer {
     let refusal = refusal(program, data, cells, state);
     if refusal.is_some() {
         return (refusal, 0, state);
@@ -72,12 +74,7 @@ pub fn run(
 }
 
 /// A single step: a run with a budget of one.
-pub fn step(
-    program: &[u8],
-    data: &mut [u8],
-    cells: &mut [u16],
-    state: State,
-) -> (Option<u32>, u64, State) {
+pub fn step(program: &[u8], data: &mut [u8], cells: &mut [u16], state: State) -> Answer {
     run(program, data, cells, state, 1)
 }
 
@@ -208,7 +205,7 @@ impl Machine<'_> {
     fn load(&self, width: usize, operands: &[u16]) -> Result<u16, u32> {
         let place = sum(operands);
         within(self.data.len(), place, width, DATA_RANGE)?;
-        Ok(number(&self.data[place..place + width]))
+        Ok(low_byte_first(&self.data[place..place + width]))
     }
 
     /// Stores the low `width` bytes of the last operand at the sum of the others,
@@ -220,7 +217,7 @@ impl Machine<'_> {
         within(self.data.len(), place, width, DATA_RANGE)?;
         let stored = &operands[last].to_le_bytes()[..width];
         self.data[place..place + width].copy_from_slice(stored);
-        Ok(number(stored))
+        Ok(low_byte_first(stored))
     }
 }
 
@@ -273,12 +270,6 @@ fn pushed(operation: Operation, instruction: &Instruction) -> usize {
 /// 01: "Address sums are exact whole numbers."
 fn sum(places: &[u16]) -> usize {
     places.iter().copied().map(usize::from).sum()
-}
-
-/// The number that bytes make, low byte first.
-fn number(bytes: &[u8]) -> u16 {
-    let append = |high, &low| high << 8 | u16::from(low);
-    bytes.iter().rev().fold(0, append)
 }
 
 /// 01: "An access of w bytes at p is good exactly if p + w is at most the

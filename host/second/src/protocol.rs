@@ -3,7 +3,7 @@
 //! none, numbers in decimal.
 
 use crate::instruction::Instruction;
-use crate::machine::{State, Status};
+use crate::machine::{Answer, State, Status};
 
 /// Bytes as one field.
 pub fn bytes(bytes: &[u8]) -> String {
@@ -60,7 +60,7 @@ pub fn encode_answer(answer: &Result<usize, u32>, room: &[u8]) -> String {
 }
 
 /// The answer of `run` and of `step`, with the memories as they are afterwards.
-pub fn run_answer(answer: &(Option<u32>, u64, State), data: &[u8], stack: &[u16]) -> String {
+pub fn run_answer(answer: &Answer, data: &[u8], stack: &[u16]) -> String {
     let (refusal, steps, after) = answer;
     let rest = format!("{} {} {}", state(after), bytes(data), cells(stack));
     match refusal {

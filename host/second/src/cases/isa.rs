@@ -7,7 +7,7 @@
 //! - `E` (45 hex): code u8, number u16, count u8, flags u8, four values u16
 //!   each, the room's length as u16, the room's bytes. Answered as `encode`.
 
-use super::{Varied, Vectors, EDGES};
+use super::{counts_and_flags, whole, Varied, Vectors, EDGES};
 use crate::instruction::{decode, encode, Instruction};
 use crate::numbers::PROGRAM_BYTES;
 use crate::protocol::{decode_answer, encode_answer};
@@ -57,21 +57,11 @@ fn add_encode(vectors: &mut Vectors, instruction: Instruction, room: usize) {
     vectors.add(&case, &encode_answer(&answer, &room));
 }
 
-/// The instruction that a first byte begins, with distinctive operands; only the
-/// byte itself where it is illegal.
-fn whole(first: u8) -> Vec<u8> {
-    let mut bytes = vec![first];
-    bytes.extend(OPERANDS);
-    let length = decode(&bytes, 0).map_or(1, |(_, length)| length);
-    bytes.truncate(length);
-    bytes
-}
-
 /// Every first byte: whole, cut at every shorter length, with bytes behind, and
 /// whole and cut inside a longer program.
 fn decode_every_first_byte(vectors: &mut Vectors) {
     for first in 0..=255 {
-        let whole = whole(first);
+        let whole = whole(first, OPERANDS);
         let inside = [&[0xFF, 0x00, 0x41, 0x80, 0xC3], whole.as_slice()].concat();
         let start = inside.len() - whole.len();
         add_decode(vectors, &whole, 0);
@@ -107,10 +97,10 @@ fn decode_numbers(vectors: &mut Vectors) {
             add_decode(vectors, &[first, low, high], 0);
         }
     }
-    for (count, flags) in good_pushes() {
+    for (count, flags) in counts_and_flags() {
         for fill in [0, 1, 255] {
             let mut bytes = [fill; 9];
-            bytes[0] = 0xC0 | flags << 2 | (count - 1);
+            bytes[0] = super::push_values(count, flags);
             add_decode(vectors, &bytes, 0);
         }
     }
@@ -191,11 +181,6 @@ fn number_codes() -> impl Iterator<Item = u8> {
     (0x00..=0x5A).chain([0x80])
 }
 
-/// The good pairs of count and flags.
-fn good_pushes() -> impl Iterator<Item = (u8, u8)> {
-    (1..=4).flat_map(|count| (0..1 << count).map(move |flags| (count, flags)))
-}
-
 /// Every code alone, and the upper ones with a value as push-values has it.
 fn encode_every_code(vectors: &mut Vectors) {
     for code in 0..=255 {
@@ -266,7 +251,7 @@ fn encode_counts_and_flags(vectors: &mut Vectors) {
             add_encode(vectors, push_values(count, flags, values), 10);
         }
     }
-    for (count, flags) in good_pushes() {
+    for (count, flags) in counts_and_flags() {
         let push = push_values(count, flags, [0; 4]);
         add_encode(vectors, push, 9);
         add_encode(vectors, Instruction { number: 1, ..push }, 9);
@@ -280,7 +265,7 @@ fn encode_counts_and_flags(vectors: &mut Vectors) {
 
 /// The edges of a value in each place, narrow, wide and absent.
 fn encode_values(vectors: &mut Vectors) {
-    for (count, flags) in good_pushes() {
+    for (count, flags) in counts_and_flags() {
         for place in 0..4 {
             for value in EDGES {
                 let mut values = [0x21, 0x43, 0x65, 0x87];
@@ -299,7 +284,7 @@ fn encode_values(vectors: &mut Vectors) {
 /// longer by three; and instructions that are bad as well, where 26 comes first.
 fn encode_rooms(vectors: &mut Vectors) {
     let numbers = number_codes().map(|code| number(code, 0x000D * u16::from(code > 0x24)));
-    let pushes = good_pushes().map(|(count, flags)| {
+    let pushes = counts_and_flags().map(|(count, flags)| {
         let mut values = [0x1F, 0x2E, 0x3D, 0x4C];
         for (place, value) in values.iter_mut().enumerate() {
             *value |= 0x9800 * u16::from(flags >> place & 1);

@@ -16,13 +16,18 @@
 //! holds the one given at i modulo g. Answered as `run`.
 
 mod assembler;
+mod case;
+mod programs;
 
-use super::{Varied, Vectors, EDGES};
-use crate::instruction::decode;
-use crate::machine::{run, State, Status, FRESH};
+use super::{counts_and_flags, push_values, whole, Varied, Vectors, EDGES};
+use crate::machine::Status;
 use crate::numbers::{DATA_BYTES, PROGRAM_BYTES, STACK_CELLS};
-use crate::protocol::run_answer;
 use assembler::assemble;
+use case::{case, Case, Lent, MOST};
+use programs::{
+    AT_THE_END_OF_DATA, COUNT_DOWN, COUNT_DOWN_AGAIN, DIVISOR, M1, M4, M9, SUBROUTINE,
+    SUM_OF_ITSELF,
+};
 
 /// All cases, in order.
 pub fn vectors() -> Vectors {
@@ -51,174 +56,12 @@ pub fn vectors() -> Vectors {
     vectors
 }
 
-const MOST: u32 = u32::MAX;
-
-const M1: [u8; 4] = [0x85, 0x83, 0x15, 0x00];
-const M4: [u8; 11] = [
-    0x83, 0x37, 0x00, 0x3D, 0x06, 0x00, 0x33, 0x00, 0x1A, 0x3C, 0x01,
-];
-const M9: [u8; 5] = [0xC9, 0x01, 0xFF, 0xFF, 0x20];
-
-/// A memory: what is given of it, repeated to its length.
-#[derive(Clone)]
-struct Lent<T> {
-    length: usize,
-    given: Vec<T>,
-}
-
-impl<T: Copy> Lent<T> {
-    fn whole(given: &[T]) -> Lent<T> {
-        Lent::repeated(given, given.len())
-    }
-
-    fn repeated(given: &[T], length: usize) -> Lent<T> {
-        Lent {
-            length,
-            given: given.to_vec(),
-        }
-    }
-
-    fn memory(&self) -> Vec<T> {
-        let repeated = self.given.iter().copied().cycle();
-        repeated.take(self.length).collect()
-    }
-}
-
-/// A case that is being put together.
-#[derive(Clone)]
-struct Case {
-    program: Lent<u8>,
-    data: Lent<u8>,
-    cells: Lent<u16>,
-    state: State,
-    budget: u32,
-}
-
-/// A program with no data, no cells, a fresh state and the largest budget.
-fn case(program: &[u8]) -> Case {
-    Case {
-        program: Lent::whole(program),
-        data: Lent::whole(&[]),
-        cells: Lent::whole(&[]),
-        state: FRESH,
-        budget: MOST,
-    }
-}
-
-impl Case {
-    /// A program made of these bytes over and over.
-    fn repeated(given: &[u8], length: usize) -> Case {
-        Case {
-            program: Lent::repeated(given, length),
-            ..case(&[])
-        }
-    }
-
-    /// So many bytes of data that differ from their neighbours.
-    fn data(self, length: usize) -> Case {
-        let given: Vec<u8> = (0..length.min(13)).map(|i| 0x17 + 0x1B * i as u8).collect();
-        Case {
-            data: Lent::repeated(&given, length),
-            ..self
-        }
-    }
-
-    fn data_of(self, bytes: &[u8]) -> Case {
-        Case {
-            data: Lent::whole(bytes),
-            ..self
-        }
-    }
-
-    /// Live values, top first, and so many cells to spare.
-    fn stack(self, live: &[u16], spare: usize) -> Case {
-        let dead = (0..spare).map(|cell| 0xD0D0 + cell as u16);
-        let cells: Vec<u16> = dead.chain(live.iter().copied()).collect();
-        let depth = live.len();
-        Case {
-            cells: Lent::whole(&cells),
-            ..self
-        }
-        .depth(depth)
-    }
-
-    /// So many cells, all dead until a depth is set.
-    fn cells(self, count: usize) -> Case {
-        let given: Vec<u16> = (0..count.min(3)).map(|cell| 0xD0D0 + cell as u16).collect();
-        Case {
-            cells: Lent::repeated(&given, count),
-            ..self
-        }
-    }
-
-    fn depth(mut self, depth: usize) -> Case {
-        self.state.depth = depth;
-        self
-    }
-
-    fn at(mut self, address: usize) -> Case {
-        self.state.address = address;
-        self
-    }
-
-    fn status(mut self, status: Status) -> Case {
-        self.state.status = status;
-        self
-    }
-
-    fn budget(self, budget: u32) -> Case {
-        Case { budget, ..self }
-    }
-
-    /// The answer, the data and the cells afterwards.
-    fn run(&self) -> ((Option<u32>, u64, State), Vec<u8>, Vec<u16>) {
-        let (mut data, mut cells) = (self.data.memory(), self.cells.memory());
-        let program = self.program.memory();
-        let answer = run(&program, &mut data, &mut cells, self.state, self.budget);
-        (answer, data, cells)
-    }
-
-    fn add(self, vectors: &mut Vectors) {
-        let (answer, data, cells) = self.run();
-        vectors.add(&self.bytes(), &run_answer(&answer, &data, &cells));
-    }
-
-    fn bytes(&self) -> Vec<u8> {
-        let mut bytes = vec![b'R'];
-        bytes.extend((self.program.length as u16).to_le_bytes());
-        bytes.extend((self.program.given.len() as u16).to_le_bytes());
-        bytes.extend(&self.program.given);
-        bytes.extend((self.data.length as u32).to_le_bytes());
-        bytes.extend((self.data.given.len() as u16).to_le_bytes());
-        bytes.extend(&self.data.given);
-        bytes.extend((self.cells.length as u16).to_le_bytes());
-        bytes.extend((self.cells.given.len() as u16).to_le_bytes());
-        bytes.extend(self.cells.given.iter().flat_map(|cell| cell.to_le_bytes()));
-        let (status, fault) = match self.state.status {
-            Status::Running => (0, 0),
-            Status::Halted => (1, 0),
-            Status::Faulted(number) => (2, number as u8),
-        };
-        bytes.extend((self.state.address as u32).to_le_bytes());
-        bytes.extend((self.state.depth as u16).to_le_bytes());
-        bytes.extend([status, fault]);
-        bytes.extend(self.budget.to_le_bytes());
-        bytes
-    }
-}
+/// Operand bytes that are good places and shifts in most forms.
+const OPERANDS: [u8; 8] = [2, 0, 4, 1, 6, 0, 8, 2];
 
 /// The good first bytes of push-values.
 fn good_pushes() -> impl Iterator<Item = u8> {
-    (1..=4).flat_map(|count| (0..1 << count).map(move |flags| 0xC0 | flags << 2 | (count - 1)))
-}
-
-/// The instruction that a first byte begins, with small operands; only the byte
-/// itself where it is illegal.
-fn whole(first: u8) -> Vec<u8> {
-    let mut bytes = vec![first, 2, 0, 4, 1, 6, 0, 8, 2];
-    let length = decode(&bytes, 0).map_or(1, |(_, length)| length);
-    bytes.truncate(length);
-    bytes
+    counts_and_flags().map(|(count, flags)| push_values(count, flags))
 }
 
 /// An instruction with a one-byte or a two-byte number; none where the number
@@ -238,7 +81,8 @@ fn marked_examples(vectors: &mut Vectors) {
     case(&M4).data(1).stack(&[], 1).add(vectors);
     case(&M4).data(1).stack(&[], 0).add(vectors);
     case(&M4).data(0).stack(&[], 1).add(vectors);
-    case(&[0x81, 0x3D, 0x00]).stack(&[], 1).add(vectors);
+    let endless = case(&[0x81, 0x3D, 0x00]).stack(&[], 1);
+    endless.budget(1_001).add(vectors);
     let endless_push = case(&[0x81, 0x3C, 0x00]);
     endless_push.clone().stack(&[], 1).add(vectors);
     endless_push.stack(&[], 7).add(vectors);
@@ -254,17 +98,20 @@ fn marked_examples(vectors: &mut Vectors) {
 }
 
 /// Every first byte on a stack with values and room: one step, two steps, and
-/// cut at every shorter length.
+/// cut at every shorter length, there also with no stack at all, where 2 and 3
+/// come before 4 and 5.
 fn every_first_byte(vectors: &mut Vectors) {
     for first in 0..=255 {
-        let mut program = whole(first);
+        let mut program = whole(first, OPERANDS);
         let about = |program: &[u8]| case(program).data(9).stack(&[1, 2, 3, 4], 4);
         for length in 1..program.len() {
             about(&program[..length]).budget(1).add(vectors);
+            case(&program[..length]).budget(1).add(vectors);
         }
         program.push(0x00);
         about(&program).budget(1).add(vectors);
         about(&program).budget(2).add(vectors);
+        case(&program).budget(1).add(vectors);
     }
 }
 
@@ -273,7 +120,7 @@ fn every_first_byte(vectors: &mut Vectors) {
 fn stack_limits(vectors: &mut Vectors) {
     let live = [1, 0, 2, 3];
     for first in (0x00..=0x5A).chain([0x80, 0xBF]).chain(good_pushes()) {
-        let program = whole(first);
+        let program = whole(first, OPERANDS);
         let uses_data = matches!(first, 0x02 | 0x03 | 0x1D..=0x24 | 0x33..=0x3A | 0x4D..=0x54);
         for depth in 0..=live.len() {
             for spare in 0..=1 {
@@ -287,7 +134,7 @@ fn stack_limits(vectors: &mut Vectors) {
     }
     for first in good_pushes() {
         for (depth, spare) in [(0, 2), (0, 3), (0, 4), (0, 5), (1, 2), (1, 3), (1, 4)] {
-            let about = case(&whole(first)).stack(&live[..depth], spare);
+            let about = case(&whole(first, OPERANDS)).stack(&live[..depth], spare);
             about.budget(1).add(vectors);
         }
     }
@@ -321,41 +168,14 @@ fn one_operand(vectors: &mut Vectors) {
 }
 
 /// Pairs that tell apart the orders, the comparisons and the carries.
+#[rustfmt::skip]
 const PAIRS: [(u16, u16); 34] = [
-    (0, 0),
-    (0, 1),
-    (1, 0),
-    (1, 1),
-    (3, 5),
-    (5, 3),
-    (1, 15),
-    (1, 16),
-    (0x8001, 1),
-    (0x8001, 15),
-    (0xFFFF, 15),
-    (0xFFFF, 16),
-    (0xFFFF, 17),
-    (0xFFFF, 32),
-    (0xFFFF, 255),
-    (0xFFFF, 256),
-    (0xFFFF, 0x8000),
-    (255, 255),
-    (255, 256),
-    (256, 255),
-    (256, 256),
-    (0x1234, 0xFF),
-    (0x1234, 0x34),
-    (0xAAAA, 0x5555),
-    (0xF0F0, 0x0FF0),
-    (0x7FFF, 0x8000),
-    (0x8000, 0x7FFF),
-    (0x8000, 0x8000),
-    (0x8000, 2),
-    (0xFFFF, 0),
-    (0, 0xFFFF),
-    (1, 0xFFFF),
-    (0xFFFF, 1),
-    (0xFFFF, 0xFFFF),
+    (0, 0), (0, 1), (1, 0), (1, 1), (3, 5), (5, 3), (1, 15), (1, 16), (0x8001, 1),
+    (0x8001, 15), (0xFFFF, 15), (0xFFFF, 16), (0xFFFF, 17), (0xFFFF, 32), (0xFFFF, 255),
+    (0xFFFF, 256), (0xFFFF, 0x8000), (255, 255), (255, 256), (256, 255), (256, 256),
+    (0x1234, 0xFF), (0x1234, 0x34), (0xAAAA, 0x5555), (0xF0F0, 0x0FF0),
+    (0x7FFF, 0x8000), (0x8000, 0x7FFF), (0x8000, 0x8000), (0x8000, 2), (0xFFFF, 0),
+    (0, 0xFFFF), (1, 0xFFFF), (0xFFFF, 1), (0xFFFF, 0xFFFF),
 ];
 
 /// The codes of two operands, the second on the stack or in the code.
@@ -372,6 +192,7 @@ fn two_operands(vectors: &mut Vectors) {
     }
     for first in [0x31, 0x32] {
         for shift in (0..=16).chain([255]) {
+            case(&[first, shift]).add(vectors);
             for value in [0xFFFF, 0x8421] {
                 let about = case(&[first, shift]).stack(&[value], 1);
                 about.budget(1).add(vectors);
@@ -380,12 +201,13 @@ fn two_operands(vectors: &mut Vectors) {
     }
 }
 
-/// How a load or store finds its place.
+/// Every load and store about both ends of small data memories, and far past
+/// them.
 fn loads_and_stores(vectors: &mut Vectors) {
     for length in [0, 1, 2, 3, 9] {
-        let width = length as u16;
-        let mut places = vec![0, 1, 2, width, width + 1, 65_534, 65_535];
-        places.extend([1, 2, 3].map(|short| width.saturating_sub(short)));
+        let end = length as u16;
+        let mut places = vec![0, 1, 2, end, end + 1, 65_534, 65_535];
+        places.extend([1, 2, 3].map(|short| end.saturating_sub(short)));
         places.sort();
         places.dedup();
         for place in places {
@@ -503,7 +325,7 @@ fn jumps(vectors: &mut Vectors) {
     let tests = [0, 1, 256, 65_535];
     for target in [0, 1, 2, 3, 4, 5, 6, 7, 255, 256, 65_535] {
         let mut add = |head: &[u8], stack: &[u16]| {
-            let program = [head, &[0x81, 0x00, 0x92][..4 - head.len().min(3)]].concat();
+            let program = [head, &[0x81, 0x00, 0x92][..4 - head.len()]].concat();
             for budget in [1, 3] {
                 let about = case(&program).stack(stack, 2);
                 about.budget(budget).add(vectors);
@@ -585,7 +407,7 @@ fn stopped_states(vectors: &mut Vectors) {
         about.stack(&[], 2).at(65_535).add(vectors);
     }
     for budget in [0, 1, MOST] {
-        for address in [0, 3, 4, 65_535, MOST as usize] {
+        for address in [0, 3, 4, 65_535, 65_536, MOST as usize] {
             for status in [Status::Running, Status::Halted, Status::Faulted(6)] {
                 let about = case(&M1).stack(&[4, 3], 1).status(status);
                 about.at(address).budget(budget).add(vectors);
@@ -657,137 +479,11 @@ fn long_programs(vectors: &mut Vectors) {
 
 /// The largest data memory, up to its last byte.
 fn long_data(vectors: &mut Vectors) {
-    let sources = [
-        "push-u8 55
-         st-u8--imm16 65534
-         push-values 48879 533 65000
-         st-u16-offs
-         ld-u16-imm16 65533
-         ld-u8--offs-imm16 65534
-         push-u8 0
-         ld-u8--offs-imm16 65534
-         ld-u16-imm16 65534",
-        "push-values 65534 0 1
-         dcopy
-         push-values 0 65535 65535
-         dcopy
-         push-values 4 0 65531
-         pcopy
-         ld-u8--imm16 65535",
-        "push-values 65535 0 0
-         dcopy
-         push-values 65534 1 0
-         dcopy
-         push-values 65535 0 1
-         dcopy",
-    ];
-    for source in sources {
+    for source in AT_THE_END_OF_DATA {
         let about = case(&assemble(source)).data(DATA_BYTES);
         about.stack(&[], 6).add(vectors);
     }
 }
-
-/// Counts a number in data 0 and 1 down to nothing.
-const COUNT_DOWN: &str = "
-        push-values 65535
-    store:
-        st-u16-imm8 0
-        jump-imm8-if again
-        halt
-    again:
-        ld-u16-imm8 0
-        dec
-        jump-imm8 store";
-
-/// Counts down so often as data 2 says.
-const COUNT_DOWN_AGAIN: &str = "
-    outer:
-        push-values 65535
-    inner:
-        st-u16-imm8 0
-        jump-imm8-if again
-        ld-u8--imm8 2
-        dec
-        st-u8--imm8 2
-        jump-imm8-if outer
-        halt
-    again:
-        ld-u16-imm8 0
-        dec
-        jump-imm8 inner";
-
-/// The greatest common divisor of data 0 and 1 and of data 2 and 3.
-const DIVISOR: &str = "
-    loop:
-        ld-u16-imm8 0
-        ld-u16-imm8 2
-        eq
-        jump-imm8-if done
-        ld-u16-imm8 0
-        ld-u16-imm8 2
-        lt
-        jump-imm8-if first
-        ld-u16-imm8 0
-        ld-u16-imm8 2
-        sub
-        st-u16-imm8 2
-        discard
-        jump-imm8 loop
-    first:
-        ld-u16-imm8 2
-        ld-u16-imm8 0
-        sub
-        st-u16-imm8 0
-        discard
-        jump-imm8 loop
-    done:
-        ld-u16-imm8 0
-        syscall-imm8 0";
-
-/// Copies itself into data from 2 on, then leaves the sum of the bytes in data 0
-/// and 1.
-const SUM_OF_ITSELF: &str = "
-        push-values 51 0 2
-        pcopy
-        push-u8 0
-        st-u16-imm8 0
-        discard
-    loop:
-        dec
-        st-u8--imm8 53
-        ld-u8--imm8 53
-        ld-u8
-        ld-u16-imm8 0
-        add
-        st-u16-imm8 0
-        discard
-        st-u8--imm8 54
-        gt--imm8 2
-        jump-imm8-if-not done
-        ld-u8--imm8 54
-        jump-imm16 loop
-    done:
-        halt";
-
-/// Doubles a number three times, by calls with the address in the code and on
-/// the stack.
-const SUBROUTINE: &str = "
-        push-values 300
-        call-imm8 double
-        call-imm16 double
-        push-u8 double
-        call
-        ne--imm16 2400
-        push-u8 end
-        jump-if
-        halt
-    double:
-        swap
-        shl-imm4 1
-        swap
-        jump
-    end:
-        halt";
 
 fn long_runs(vectors: &mut Vectors) {
     let count_down = case(&assemble(COUNT_DOWN)).data(2).stack(&[], 1);
@@ -810,8 +506,8 @@ fn long_runs(vectors: &mut Vectors) {
             .add(vectors);
     }
     let sum = case(&assemble(SUM_OF_ITSELF)).stack(&[], 3);
-    sum.clone().data(55).add(vectors);
-    sum.data(54).add(vectors);
+    sum.clone().data(42).add(vectors);
+    sum.data(41).add(vectors);
     case(&assemble(SUBROUTINE)).stack(&[], 3).add(vectors);
     case(&assemble(SUBROUTINE)).stack(&[], 2).add(vectors);
     case(&[0x3B, 0x00]).cells(STACK_CELLS).add(vectors);
@@ -822,7 +518,7 @@ fn long_runs(vectors: &mut Vectors) {
 /// the memories and the state they left.
 fn resumed_runs(vectors: &mut Vectors) {
     let calls = case(&assemble(SUBROUTINE)).stack(&[], 3);
-    let sum = case(&assemble(SUM_OF_ITSELF)).data(55).stack(&[], 3);
+    let sum = case(&assemble(SUM_OF_ITSELF)).data(42).stack(&[], 3);
     for (about, most) in [
         (case(&M1).stack(&[], 2), 5),
         (case(&M4).data(1).stack(&[], 1), 20),
@@ -854,14 +550,11 @@ fn varied_instruction(varied: &mut Varied) -> Vec<u8> {
         _ => varied.byte(),
     };
     let limit = varied.one_of(&[4, 16, 16, 40, 256]);
-    let mut bytes = vec![first];
-    bytes.extend((0..8).map(|_| varied.below(limit) as u8));
+    let mut operands = [0; 8].map(|_: u8| varied.below(limit) as u8);
     if (0x41..=0x5A).contains(&first) && varied.below(4) > 0 {
-        bytes[2] = 0;
+        operands[1] = 0;
     }
-    let length = decode(&bytes, 0).map_or(1, |(_, length)| length);
-    bytes.truncate(length);
-    bytes
+    whole(first, operands)
 }
 
 /// Memories and a start for varied programs.
@@ -895,7 +588,7 @@ fn varied_bytes(vectors: &mut Vectors) {
 fn varied_good_steps(vectors: &mut Vectors) {
     let mut varied = Varied(4);
     for _ in 0..500 {
-        let mut about = varied_start(&mut varied, &[]);
+        let mut about = varied_start(&mut varied, &[]).budget(10_000);
         let wanted = 3 + varied.below(20);
         let mut tries = 0;
         while about.program.length < wanted && tries < 400 {
@@ -916,7 +609,7 @@ fn varied_good_steps(vectors: &mut Vectors) {
             about.program.given.extend(varied_instruction(&mut varied));
             about.program.length = about.program.given.len();
         }
-        about.budget(10_000).add(vectors);
+        about.add(vectors);
     }
 }
 

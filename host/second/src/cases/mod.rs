@@ -5,6 +5,8 @@
 pub mod isa;
 pub mod machine;
 
+use crate::instruction::decode;
+
 /// Cases and their answers.
 #[derive(Default)]
 pub struct Vectors {
@@ -65,3 +67,23 @@ impl Varied {
 
 /// Numbers at the edges of one and of two bytes.
 const EDGES: [u16; 5] = [0, 1, 255, 256, 65_535];
+
+/// The instruction that a first byte begins, with these operand bytes as far as
+/// it needs them; only the byte itself where it is illegal.
+fn whole(first: u8, operands: [u8; 8]) -> Vec<u8> {
+    let mut bytes = vec![first];
+    bytes.extend(operands);
+    let length = decode(&bytes, 0).map_or(1, |(_, length)| length);
+    bytes.truncate(length);
+    bytes
+}
+
+/// The good counts and flags of push-values.
+fn counts_and_flags() -> impl Iterator<Item = (u8, u8)> {
+    (1..=4).flat_map(|count| (0..1 << count).map(move |flags| (count, flags)))
+}
+
+/// The first byte of a push-values.
+fn push_values(count: u8, flags: u8) -> u8 {
+    0xC0 | flags << 2 | (count - 1)
+}

@@ -1,0 +1,9 @@
+# run: the main job on the example that ships with the repository. test: the gate.
+.PHONY: run test
+
+run:
+	@mkdir -p target && rt check readout >target/run.log 2>&1 || { cat target/run.log; exit 1; }
+	@target/bin/readout < examples/countdown.rex
+
+test:
+	@.ci/run
