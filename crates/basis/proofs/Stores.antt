@@ -1,6 +1,5 @@
 -- Laws of stores into a lent room, and of parts of a list.
 -- Assumes nothing.
--- two runs of elements stored one after the other
 use Prim.Native.Nat.{ℕ, suc, _+_, _-_, _≤_}
 use native.Mathlib.Omega.{arith}
 use native.Mathlib.Nat.{le-of-eq, add-zero, zero-add, add-suc, suc-add}
@@ -11,6 +10,7 @@ use lib.Seq.{take-all, sets, sets-eq}
 use Rattle.basis.specs.Number.{bytesOf}
 use Rattle.basis.proofs.Numbers.{length-bytes}
 
+-- two runs of elements stored one after the other
 pub sets-append : (xs l ys : List ℕ) (at : ℕ) → sets l at (xs ++ ys) ≡ sets (sets l at xs) (at + length xs) ys
 sets-append [] l ys at = rw add-zero
 sets-append (x ∷ xs) l ys at = sets-append xs (set l at x) ys (suc at) ∙ rw (add-suc, suc-add)

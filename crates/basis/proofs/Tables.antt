@@ -1,6 +1,5 @@
 -- A test that is computed at every number below a bound, or between two bounds, holds at each.
 -- Assumes nothing.
--- the test f passes at every number below n
 use mathlib.Core.Path.{_≡_, subst, sym}
 use mathlib.Core.Bool.{Bool, true}
 use Prim.Native.Nat.{ℕ, zero, suc, _+_, _-_, _<_, _≤_}
@@ -10,6 +9,7 @@ use native.Mathlib.Decide.{decLt}
 use Rattle.basis.specs.Pick.{both}
 use Rattle.basis.proofs.Tests.{both-left, both-right}
 
+-- the test f passes at every number below n
 abbrev pub every : (ℕ → Bool) → ℕ → Bool
 every f zero = true
 every f (suc n) = both (f n) (every f n)

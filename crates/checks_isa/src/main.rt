@@ -97,10 +97,28 @@ fn decode_case(cases: &[u8], at: usize) -> usize {
 
 fn instruction_at(cases: &[u8], at: usize) -> Instruction {
     if cases.len() < 16 {
-        return Instruction { code: 0, number: 0, count: 0, flags: 0, v0: 0, v1: 0, v2: 0, v3: 0 };
+        return Instruction {
+            code: 0,
+            number: 0,
+            count: 0,
+            flags: 0,
+            v0: 0,
+            v1: 0,
+            v2: 0,
+            v3: 0,
+        };
     }
     if cases.len() - 16 < at {
-        return Instruction { code: 0, number: 0, count: 0, flags: 0, v0: 0, v1: 0, v2: 0, v3: 0 };
+        return Instruction {
+            code: 0,
+            number: 0,
+            count: 0,
+            flags: 0,
+            v0: 0,
+            v1: 0,
+            v2: 0,
+            v3: 0,
+        };
     }
     Instruction {
         code: cases[at + 1],

@@ -1,6 +1,5 @@
 -- What is written is read again as the same instruction.
 -- Assumes nothing.
--- a form whose first byte is its code
 use Prim.Native.Nat.{ℕ, _+_, _-_, _*_, _%_, _^_, _≤_, _<_}
 use native.Mathlib.Omega.{arith}
 use mathlib.Core.Path.{_≡_, refl, sym, ap, ap₂, _∙_}
@@ -22,6 +21,7 @@ use Rattle.isa.specs.declared.Instruction.{Instruction}
 use Rattle.encoder.specs.Encode.{countGood, wellFormed, firstIn, valueBytes, bytesIn, encodedOf}
 use Rattle.encoder.proofs.Wells.{well, WellFormed, well-count, well-flags, count-pos, length-encoded, length-well}
 
+-- a form whose first byte is its code
 abbrev isLow : Form → Bool
 isLow Plain = true
 isLow Byte = true

@@ -1,6 +1,5 @@
 -- The round trips of decoder and encoder, at any place of any program, and what follows from them.
 -- Assumes nothing.
--- What an instruction that was read is: well-formed, its bytes those of the program, inside the program.
 use Prim.Native.Nat.{ℕ, _+_, _≤_}
 use native.Mathlib.Omega.{arith}
 use mathlib.Core.Path.{_≡_, refl, sym, ap, _∙_}
@@ -24,6 +23,7 @@ use Rattle.encoder.proofs.Wells.{length-encoded}
 use Rattle.encoder.proofs.Back.{head-back}
 use Rattle.encoder.proofs.Forth.{head-forth}
 
+-- What an instruction that was read is: well-formed, its bytes those of the program, inside the program.
 pub record Stands (p : List ℕ) (at n : ℕ) (i : Instruction) : Type 0 where
   pub well : wellFormed i ≡ true
   pub bytes : encodedOf i ≡ take n (drop at p)

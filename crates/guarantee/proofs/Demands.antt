@@ -1,8 +1,59 @@
 -- The demands hold.
 -- Assumes nothing.
-use Rattle.encoder.proofs.Trips.{Stands, read-stands, stands-read, written-read, read-written, encoded-one}
+use Prim.Native.Nat.{ℕ, zero, suc, _+_, _≤_}
+use native.Mathlib.Omega.{arith}
+use native.Mathlib.Nat.{zero-add}
+use mathlib.Core.Path.{_≡_, refl, sym, ap, _∙_}
+use mathlib.Core.Logic.{inl, inr, ⊎-elim}
+use mathlib.Core.Bool.{Bool, true, false}
+use mathlib.Core.List.{List}
+use Rattle.basis.specs.Pick.{pick}
+use Rattle.machine.specs.Machine.{Machine, stepOf}
+use Rattle.machine.specs.Run.{came, isRunning, isFaulted, runOf, outcomeOf}
+use Rattle.machine.specs.Refusals.{Allowed}
+use Rattle.machine.proofs.Runs.{run-told, told-run}
+use Rattle.machine.proofs.Answers.{over-refused, allowed-runs, over-or-allowed}
+use Rattle.effects.proofs.Frame.{framed}
+use Rattle.encoder.proofs.Trips.{read-stands, stands-read, written-read, read-written, encoded-one}
 use Rattle.isa.proofs.Refuses.{refusal-why, why-refusal}
-use Rattle.guarantee.specs.Demands.{IsRead, IsWrittenAgain, IsReadAgain, RefusesExactly, BytesTellApart}
+use Rattle.guarantee.specs.Demands.{IsRefused, HasAnswer, IsStepByStep, NoSumWraps, IsRead, IsWrittenAgain, IsReadAgain, RefusesExactly, BytesTellApart}
+
+pub is-refused : IsRefused
+unfolding IsRefused
+is-refused budget program m n o = over-refused budget program m n o
+
+-- a run of the definition ends within its budget
+ends : (n k : ℕ) (program : List ℕ) (m : Machine) → (m′ : Machine) × (c : ℕ) × (runOf n program m k ≡ came m′ c)
+unfolding runOf
+ends zero k program m = (m, k, refl)
+ends (suc n) k program m = by (ends n (k + 1) program (stepOf program m)) (isRunning (m .state .status)) (isFaulted (stepOf program m .state .status))
+  where
+    by : (m′ : Machine) × (c : ℕ) × (runOf n program (stepOf program m) (k + 1) ≡ came m′ c) → (t u : Bool)
+        → (m′ : Machine) × (c : ℕ) × (pick t (pick u (came (stepOf program m) k) (runOf n program (stepOf program m) (k + 1))) (came m k) ≡ came m′ c)
+    by r true true = (stepOf program m, k, refl)
+    by r true false = r
+    by r false u = (m, k, refl)
+
+pub has-answer : HasAnswer
+unfolding HasAnswer
+has-answer budget program m = ⊎-elim (λ o. inl o) (λ a. inr (allowed a)) (over-or-allowed program m)
+  where
+    allowed : Allowed program m → (m′ : Machine) × (k : ℕ) × (outcomeOf budget program m ≡ came m′ k) × (k ≤ budget)
+    allowed a =
+        let r = ends budget 0 program m in
+        let t = run-told program budget 0 m (r .0) (r .1) (r .2) in
+        (r .0, r .1, allowed-runs budget program m a ∙ r .2, omega (arith, t .counted, t .budget))
+
+pub is-step-by-step : IsStepByStep
+unfolding IsStepByStep
+is-step-by-step = (
+  (λ budget count program m m′ a e. run-told program budget 0 m m′ count (sym (allowed-runs budget program m a) ∙ e)),
+  (λ steps left program m last m′ a t e. allowed-runs (steps + left) program m a ∙ told-run program 0 steps left m last m′ t e ∙ ap (λ (k : ℕ). came m′ k) (zero-add steps)),
+)
+
+pub no-sum-wraps : NoSumWraps
+unfolding NoSumWraps
+no-sum-wraps program next o depth mem cells = framed program next o depth mem cells
 
 pub is-read : IsRead
 unfolding IsRead

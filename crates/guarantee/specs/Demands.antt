@@ -1,7 +1,9 @@
 -- The demands, sentence by sentence, as propositions over the definitions that the public functions are proved to meet.
--- Stated so far: of the second demand, its sentence on well-formed instructions.
+-- Stated so far: of the first and the second demand what they say of runs and of instructions. Rule packs and the third
+-- demand follow with the packs and the verifier.
 use Prim.Native.Nat.{ℕ, _+_, _≤_}
 use mathlib.Core.Path.{_≡_}
+use mathlib.Core.Logic.{_⊎_}
 use mathlib.Core.Bool.{true}
 use mathlib.Core.List.{List, _++_}
 use lib.ListN.{length, take, drop}
@@ -11,7 +13,45 @@ use Rattle.basis.specs.Room.{roomAfter}
 use Rattle.isa.specs.Decode.{decodeOf}
 use Rattle.isa.specs.Refusals.{Why}
 use Rattle.isa.specs.declared.Instruction.{Instruction}
+use Rattle.isa.specs.Op.{Op}
 use Rattle.encoder.specs.Encode.{wellFormed, encodedOf, encodeOf}
+use Rattle.effects.specs.Act.{doOf}
+use Rattle.effects.specs.Reach.{Framed}
+use Rattle.machine.specs.Machine.{Machine}
+use Rattle.machine.specs.Run.{came, outcomeOf}
+use Rattle.machine.specs.Run.{refused as refusedRun}
+use Rattle.machine.specs.Refusals.{Over, Allowed}
+use Rattle.machine.specs.Trace.{Took, Ends, Told}
+
+-- Demand 1.
+
+-- "A program over 16,384 bytes, data over 65,535, a stack over 1,024 cells or a state deeper than its stack is refused by
+-- number, before a byte or a state changes": the run is refused by the first number that applies, with the machine as it was.
+unfoldable pub IsRefused : Type 0
+IsRefused = (budget : ℕ) (program : List ℕ) (m : Machine) (n : ℕ) → Over program m n → outcomeOf budget program m ≡ refusedRun n m
+
+-- "Any bytes, any lengths and any saved state get an answer, and every call ends": a run that no number refuses takes its
+-- steps, no more than its budget, and ends paused, stopped or faulted.
+unfoldable pub HasAnswer : Type 0
+HasAnswer =
+    (budget : ℕ) (program : List ℕ) (m : Machine)
+    → ((n : ℕ) × Over program m n) ⊎ ((m′ : Machine) × (k : ℕ) × (outcomeOf budget program m ≡ came m′ k) × (k ≤ budget))
+
+-- Demand 2.
+
+-- "A run is the published machine, step by step: address, depth, status, step count, every data byte and every stack cell":
+-- what an allowed run hands back is reached by exactly the counted steps of the definition, and so ends; and whatever is so
+-- reached is handed back.
+unfoldable pub IsStepByStep : Type 0
+IsStepByStep =
+    ((budget count : ℕ) (program : List ℕ) (m m′ : Machine) → Allowed program m → outcomeOf budget program m ≡ came m′ count → Told program budget 0 m m′ count)
+    × ((steps left : ℕ) (program : List ℕ) (m last m′ : Machine) → Allowed program m → Took program m steps last → Ends program last left m′
+    → outcomeOf (steps + left) program m ≡ came m′ steps)
+
+-- "No address sum wraps": an operation that does not fault has its ranges inside the memories, their sums being whole
+-- numbers; and every byte outside the range that it names, and every cell outside those that it pushes into, keeps what it held.
+unfoldable pub NoSumWraps : Type 0
+NoSumWraps = (program : List ℕ) (next : ℕ) (o : Op) (depth : ℕ) (mem cells : List ℕ) → Framed program next o depth mem cells (doOf program next o depth mem cells)
 
 -- "Every well-formed instruction .. is read": wherever its bytes stand in an admissible program, the decoder gives it.
 unfoldable pub IsRead : Type 0

@@ -1,6 +1,5 @@
 -- Laws of the codes: what an operation takes, pushes and leads to, told by its code, and tests over runs of codes.
 -- Assumes nothing.
--- a number told by the code is v at each of the n codes from lo
 use Prim.Native.Nat.{ℕ, _+_, _≤_, _<_}
 use mathlib.Core.Path.{_≡_, refl, sym, ap, _∙_}
 use mathlib.Core.Bool.{Bool, true, false}
@@ -18,6 +17,7 @@ use Rattle.isa.specs.declared.Instruction.{Instruction}
 use Rattle.isa.specs.declared.Way.{Way}
 use Rattle.isa.specs.declared.Way.the-variants.{Stop, Next, Jump, Branch, Call, Taken, System, Extension}
 
+-- a number told by the code is v at each of the n codes from lo
 pub told : (f : ℕ → ℕ) (v lo n : ℕ) → span (λ c. eqb v (f c)) lo n ≡ true → (c : ℕ) → lo ≤ c → c < lo + n → v ≡ f c
 told f v lo n t c h l = eqb-true v (f c) (inside (λ k. eqb v (f k)) lo n t c h l)
 

@@ -1,6 +1,5 @@
 -- The decoder refuses by exactly the numbers of 01: a refusal has its reason, and a reason its refusal.
 -- Assumes nothing.
--- a number at or over its limit is that of a shift, or of a form that admits no number
 use Prim.Native.Nat.{ℕ, _+_, _-_, _≤_, _<_}
 use native.Mathlib.Omega.{arith}
 use native.Mathlib.Nat.{add-zero}
@@ -22,6 +21,7 @@ use Rattle.forms.specs.declared.Form.the-variants.{Plain, Byte, Shift, Word, Sh
 use Rattle.isa.specs.Decode.{Reading, numberIn, instructionIn, headOf, decodeOf}
 use Rattle.isa.specs.Refusals.{Inside, Why, over-size, past-end, illegal-first, cut, illegal-shift}
 
+-- a number at or over its limit is that of a shift, or of a form that admits no number
 over : (f : Form) (s : List ℕ) → Bytes s → limitIn f ≤ numberIn f s → (f ≡ Illegal → ⊥) → (f ≡ Shift) × (16 ≤ getD s 1 0)
 over Plain s h l n = absurd (omega arith)
 over Byte s h l n = absurd (let k = number-lt 1 s 1 h in omega arith)

@@ -1,3 +1,5 @@
+-- `alu::change` meets its contract.
+-- Assumes nothing.
 use borrow.Author.Needs.{needs}
 use Rattle.alu.proofs.change.Statement.{statement}
 use Rattle.alu.proofs.change.Tie as tie

@@ -1,3 +1,5 @@
+-- `alu::combine` meets its contract.
+-- Assumes nothing.
 use borrow.Author.Needs.{needs}
 use Rattle.alu.proofs.combine.Statement.{statement}
 use Rattle.alu.proofs.combine.Tie as tie

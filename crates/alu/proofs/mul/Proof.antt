@@ -1,3 +1,5 @@
+-- `alu::mul` meets its contract.
+-- Assumes nothing.
 use borrow.Author.Needs.{needs}
 use Rattle.alu.proofs.Products.{below}
 use Rattle.alu.proofs.mul.Statement.{statement}

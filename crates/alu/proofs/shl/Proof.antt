@@ -1,3 +1,5 @@
+-- `alu::shl` meets its contract.
+-- Assumes nothing.
 use borrow.Author.Tests.{lt-ltb, le-ltb}
 use borrow.Author.Needs.{needs}
 use Rattle.alu.proofs.shl.Statement.{statement}

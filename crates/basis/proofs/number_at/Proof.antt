@@ -1,3 +1,5 @@
+-- `basis::number_at` meets its contract.
+-- Assumes nothing.
 use Prim.Native.Nat.{_+_}
 use native.Mathlib.Omega.{arith}
 use mathlib.Core.Path.{_≡_}

@@ -1,3 +1,5 @@
+-- `basis::put_number` meets its contract.
+-- Assumes nothing.
 use native.Mathlib.Numerals.{add-one}
 use lib.ListN.{length-set}
 use mathlib.Core.Path.{_≡_}

@@ -1,3 +1,5 @@
+-- `checks_isa::ask_all` meets its contract; the loop's invariant and its measure come first.
+-- Assumes nothing.
 use borrow.Author.Needs.{needs}
 use mathlib.Core.Path.{_≡_}
 use Prim.Native.Nat.{_-_}

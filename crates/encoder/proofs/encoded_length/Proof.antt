@@ -1,3 +1,5 @@
+-- `encoder::encoded_length` meets its contract.
+-- Assumes nothing.
 use lib.Count.{ones-le}
 use mathlib.Core.Path.{_≡_, sym}
 use native.Mathlib.Omega.{arith}

@@ -1,3 +1,5 @@
+-- `encoder::put_bytes` meets its contract.
+-- Assumes nothing.
 use lib.ListN.{length, length-set}
 use denote.Ref.{now}
 use mathlib.Core.Path.{_≡_, _∙_}

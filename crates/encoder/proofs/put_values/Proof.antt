@@ -1,3 +1,5 @@
+-- `encoder::put_values` meets its contract.
+-- Assumes nothing.
 use denote.Ref.{now}
 use Prim.Native.Nat.{_/_}
 use native.Mathlib.Omega.{arith}

@@ -1,3 +1,5 @@
+-- `encoder::value_good` meets its contract.
+-- Assumes nothing.
 use borrow.Author.Tests.{lt-ltb}
 use mathlib.Core.Path.{_≡_, sym}
 use native.Mathlib.Omega.{arith}

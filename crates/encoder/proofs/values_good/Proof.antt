@@ -1,3 +1,5 @@
+-- `encoder::values_good` meets its contract.
+-- Assumes nothing.
 use lib.Dec.{ltb}
 use mathlib.Core.Bool.{true, false}
 use borrow.Author.Tests.{not-true, not-false}

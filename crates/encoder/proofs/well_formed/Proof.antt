@@ -1,3 +1,5 @@
+-- `encoder::well_formed` meets its contract.
+-- Assumes nothing.
 use mathlib.Core.Bool.{true, false}
 use borrow.Author.Tests.{not-true, not-false, lt-ltb, le-ltb}
 use Prim.Native.Nat.{_^_, _≤_, _<_}

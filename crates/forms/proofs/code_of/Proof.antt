@@ -1,3 +1,5 @@
+-- `forms::code_of` meets its contract.
+-- Assumes nothing.
 use borrow.Author.Tests.{lt-ltb, le-ltb}
 use Rattle.forms.specs.Form.{codeOf}
 use Rattle.forms.proofs.code_of.Statement.{statement}

@@ -1,3 +1,5 @@
+-- `forms::count_in` meets its contract.
+-- Assumes nothing.
 use borrow.Author.Needs.{needs}
 use Rattle.forms.proofs.count_in.Statement.{statement}
 use Rattle.forms.proofs.count_in.Tie as tie

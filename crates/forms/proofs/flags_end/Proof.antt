@@ -1,3 +1,5 @@
+-- `forms::flags_end` meets its contract.
+-- Assumes nothing.
 use native.Mathlib.Omega.{arith}
 use mathlib.Core.Path.{_≡_}
 use Rattle.forms.proofs.flags_end.Statement.{statement}

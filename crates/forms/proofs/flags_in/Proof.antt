@@ -1,3 +1,5 @@
+-- `forms::flags_in` meets its contract.
+-- Assumes nothing.
 use borrow.Author.Needs.{needs}
 use Rattle.forms.proofs.flags_in.Statement.{statement}
 use Rattle.forms.proofs.flags_in.Tie as tie

@@ -1,3 +1,5 @@
+-- `forms::form_of` meets its contract.
+-- Assumes nothing.
 use borrow.Author.Tests.{le-leb, lt-leb, eq-eqb, ne-eqb}
 use Rattle.forms.specs.Form.{formOf}
 use Rattle.forms.proofs.form_of.Statement.{statement}

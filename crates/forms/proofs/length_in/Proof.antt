@@ -1,3 +1,5 @@
+-- `forms::length_in` meets its contract.
+-- Assumes nothing.
 use Prim.Native.Nat.{_^_, _≤_, _<_}
 use lib.Count.{ones-le}
 use borrow.Author.Tests.{lt-ltb, le-ltb}

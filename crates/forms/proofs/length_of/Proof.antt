@@ -1,3 +1,5 @@
+-- `forms::length_of` meets its contract.
+-- Assumes nothing.
 use mathlib.Core.Path.{ap, _∙_}
 use borrow.Author.Needs.{needs}
 use Rattle.forms.specs.declared.Form.{Form}

@@ -1,3 +1,5 @@
+-- `forms::value_width` meets its contract.
+-- Assumes nothing.
 use borrow.Author.Tests.{lt-ltb, le-ltb}
 use borrow.Author.Needs.{needs}
 use Rattle.forms.specs.Form.{valueWidth}

@@ -1,3 +1,5 @@
+-- `readout::say_bytes` meets its contract; the loop's invariant and its measure come first.
+-- Assumes nothing.
 use borrow.Author.Needs.{needs}
 use Prim.Native.Nat.{_≤_, _-_}
 use lib.ListN.{length}

@@ -1,3 +1,5 @@
+-- `isa::decode` meets its contract.
+-- Assumes nothing.
 use denote.Ref.{now}
 use mathlib.Core.Path.{ap, _∙_}
 use borrow.Author.Tests.{lt-ltb, le-ltb, le-leb, lt-leb}

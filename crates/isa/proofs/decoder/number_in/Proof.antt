@@ -1,3 +1,5 @@
+-- `isa::number_in` meets its contract.
+-- Assumes nothing.
 use native.Mathlib.Omega.{arith}
 use borrow.Author.Needs.{needs}
 use Rattle.isa.proofs.decoder.number_in.Statement.{statement}

@@ -1,3 +1,5 @@
+-- `isa::read_head` meets its contract.
+-- Assumes nothing.
 use lib.ListN.{length, getD}
 use denote.Ref.{now}
 use Prim.Native.Nat.{_≤_, _<_}

@@ -1,3 +1,5 @@
+-- `isa::with_values` meets its contract.
+-- Assumes nothing.
 use Prim.Native.Nat.{_/_}
 use native.Mathlib.Omega.{arith}
 use borrow.Author.Needs.{needs}

@@ -1,0 +1,44 @@
+-- `dispatch::call_byte` meets its contract: the byte is there or cut, and the operation does the rest.
+-- Assumes nothing.
+use Prim.Native.Nat.{_+_}
+use borrow.Author.Needs.{needs}
+use borrow.Author.Tests.{lt-ltb, le-ltb}
+use denote.Ref.{now}
+use Rattle.dispatch.specs.First.{byteOf}
+use Rattle.dispatch.proofs.numbered.call_byte.Statement.{statement}
+use Rattle.dispatch.proofs.numbered.call_byte.Tie as tie
+
+add-if1 : tie.Need-add-if1
+add-if1 c = search needs
+
+returns : tie.Need-returns
+unfolding byteOf
+returns c = λ m. rw (lt-ltb _ _ (c .if1 .taken))
+
+byte-after-requires : tie.Need-byte-after-requires
+byte-after-requires c κs = search needs
+
+add-call-to : tie.Need-add-call-to
+add-call-to c = search needs
+
+call-to-requires : tie.Need-call-to-requires
+call-to-requires c κs = search needs
+
+same-length : tie.Need-same-length
+same-length c = search needs
+
+returns-2 : tie.Need-returns-2
+unfolding byteOf
+returns-2 c = λ m. rw (le-ltb _ _ (c .before .before .before .before .before .if1 .left), ← c .before .before .before .before .byte-after .ensures) (c .before .before .call-to .ensures (now (c .before .before .before .before .before .before .before .before .args .program)) m)
+
+pub call-byte-spec : {M : Type 1} → statement M
+call-byte-spec =
+    tie.close
+    (tie.spec
+    add-if1
+    returns
+    byte-after-requires
+    add-call-to
+    call-to-requires
+    same-length
+    returns-2)

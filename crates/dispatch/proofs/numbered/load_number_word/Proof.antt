@@ -1,0 +1,44 @@
+-- `dispatch::load_number_word` meets its contract: the word is there or cut, and the operation does the rest.
+-- Assumes nothing.
+use Prim.Native.Nat.{_+_}
+use borrow.Author.Needs.{needs}
+use borrow.Author.Tests.{lt-ltb, le-ltb}
+use denote.Ref.{now}
+use Rattle.dispatch.specs.First.{wordOf}
+use Rattle.dispatch.proofs.numbered.load_number_word.Statement.{statement}
+use Rattle.dispatch.proofs.numbered.load_number_word.Tie as tie
+
+add-if1 : tie.Need-add-if1
+add-if1 c = search needs
+
+returns : tie.Need-returns
+unfolding wordOf
+returns c = rw (lt-ltb _ _ (c .if1 .taken))
+
+word-after-requires : tie.Need-word-after-requires
+word-after-requires c κs = search needs
+
+add-load-number : tie.Need-add-load-number
+add-load-number c = search needs
+
+load-number-requires : tie.Need-load-number-requires
+load-number-requires c κs = search needs
+
+same-length : tie.Need-same-length
+same-length c = search needs
+
+returns-2 : tie.Need-returns-2
+unfolding wordOf
+returns-2 c = rw (le-ltb _ _ (c .before .before .before .before .before .if1 .left), ← c .before .before .before .before .word-after .ensures) (c .before .before .load-number .ensures (now (c .before .before .before .before .before .before .before .before .before .args .program)))
+
+pub load-number-word-spec : {M : Type 1} → statement M
+load-number-word-spec =
+    tie.close
+    (tie.spec
+    add-if1
+    returns
+    word-after-requires
+    add-load-number
+    load-number-requires
+    same-length
+    returns-2)

@@ -1,0 +1,44 @@
+-- `dispatch::two_word` meets its contract: the word is there or cut, and the operation does the rest.
+-- Assumes nothing.
+use Prim.Native.Nat.{_+_}
+use borrow.Author.Needs.{needs}
+use borrow.Author.Tests.{lt-ltb, le-ltb}
+use denote.Ref.{now}
+use Rattle.dispatch.specs.First.{wordOf}
+use Rattle.dispatch.proofs.numbered.two_word.Statement.{statement}
+use Rattle.dispatch.proofs.numbered.two_word.Tie as tie
+
+add-if1 : tie.Need-add-if1
+add-if1 c = search needs
+
+returns : tie.Need-returns
+unfolding wordOf
+returns c = λ m. rw (lt-ltb _ _ (c .if1 .taken))
+
+word-after-requires : tie.Need-word-after-requires
+word-after-requires c κs = search needs
+
+add-two-number : tie.Need-add-two-number
+add-two-number c = search needs
+
+two-number-requires : tie.Need-two-number-requires
+two-number-requires c κs = search needs
+
+same-length : tie.Need-same-length
+same-length c = search needs
+
+returns-2 : tie.Need-returns-2
+unfolding wordOf
+returns-2 c = λ m. rw (le-ltb _ _ (c .before .before .before .before .before .if1 .left), ← c .before .before .before .before .word-after .ensures) (c .before .before .two-number .ensures (now (c .before .before .before .before .before .before .before .before .args .program)) m)
+
+pub two-word-spec : {M : Type 1} → statement M
+two-word-spec =
+    tie.close
+    (tie.spec
+    add-if1
+    returns
+    word-after-requires
+    add-two-number
+    two-number-requires
+    same-length
+    returns-2)

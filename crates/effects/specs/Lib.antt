@@ -1,0 +1,4 @@
+pub mod Memory
+pub mod Effect
+pub mod Act
+pub mod Reach

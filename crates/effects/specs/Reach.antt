@@ -1,0 +1,82 @@
+-- What an operation may reach: the ranges of data and program that it names, and the cells that it pushes into.
+use Prim.Native.Nat.{ℕ, _+_, _-_, _≤_, _<_}
+use mathlib.Core.Path.{_≡_}
+use mathlib.Core.Logic.{_⊎_}
+use mathlib.Core.Bool.{Bool, true, false}
+use mathlib.Core.List.{List}
+use lib.ListN.{length, getD}
+use Rattle.isa.specs.Op.{Op}
+use Rattle.isa.specs.Op as op
+use Rattle.isa.specs.Shape.{takenOf, pushedOf}
+use Rattle.effects.specs.Memory.{operandOf}
+use Rattle.effects.specs.Act.{Done}
+use Rattle.effects.specs.Effect.{placeOf}
+use Rattle.effects.specs.declared.Move.{Move}
+use Rattle.effects.specs.declared.Move.the-variants.{To, Halt, Fault}
+
+abbrev pub isFault : Move → Bool
+isFault (To address depth) = false
+isFault (Halt n depth) = false
+isFault (Fault n depth) = true
+
+module _ (arg : ℕ → ℕ) where
+  -- the data that an operation may write: from this address
+  abbrev pub writesFrom : Op → ℕ
+  writesFrom op.Halt = 0
+  writesFrom op.Discard = 0
+  writesFrom op.DataCopy = arg 0
+  writesFrom op.ProgramCopy = arg 0
+  writesFrom op.Swap = 0
+  writesFrom (op.Taken r) = 0
+  writesFrom (op.Given r x) = 0
+  writesFrom (op.Two p) = 0
+  writesFrom (op.TwoNumber p x) = 0
+  writesFrom (op.One s) = 0
+  writesFrom (op.Load w n x) = 0
+  writesFrom (op.Store w n x) = placeOf arg n x
+  writesFrom (op.Push vs) = 0
+  writesFrom op.NoOp = 0
+
+  -- so many bytes
+  abbrev pub writesCount : Op → ℕ
+  writesCount op.Halt = 0
+  writesCount op.Discard = 0
+  writesCount op.DataCopy = arg 2
+  writesCount op.ProgramCopy = arg 2
+  writesCount op.Swap = 0
+  writesCount (op.Taken r) = 0
+  writesCount (op.Given r x) = 0
+  writesCount (op.Two p) = 0
+  writesCount (op.TwoNumber p x) = 0
+  writesCount (op.One s) = 0
+  writesCount (op.Load w n x) = 0
+  writesCount (op.Store w n x) = w
+  writesCount (op.Push vs) = 0
+  writesCount op.NoOp = 0
+
+  -- the ranges that it reads or writes lie inside their memories, as whole-number sums
+  abbrev pub Inside : List ℕ → List ℕ → Op → Type 0
+  Inside program mem op.Halt = Unit {0}
+  Inside program mem op.Discard = Unit {0}
+  Inside program mem op.DataCopy = (arg 0 + arg 2 ≤ length mem) × (arg 1 + arg 2 ≤ length mem)
+  Inside program mem op.ProgramCopy = (arg 0 + arg 2 ≤ length mem) × (arg 1 + arg 2 ≤ length program)
+  Inside program mem op.Swap = Unit {0}
+  Inside program mem (op.Taken r) = Unit {0}
+  Inside program mem (op.Given r x) = Unit {0}
+  Inside program mem (op.Two p) = Unit {0}
+  Inside program mem (op.TwoNumber p x) = Unit {0}
+  Inside program mem (op.One s) = Unit {0}
+  Inside program mem (op.Load w n x) = placeOf arg n x + w ≤ length mem
+  Inside program mem (op.Store w n x) = placeOf arg n x + w ≤ length mem
+  Inside program mem (op.Push vs) = Unit {0}
+  Inside program mem op.NoOp = Unit {0}
+
+-- a place outside so many places from another
+abbrev pub Out : ℕ → ℕ → ℕ → Type 0
+Out q from n = (q < from) ⊎ (from + n ≤ q)
+
+-- what was done reached only there: every access that succeeds lies inside, and the rest keeps what it held
+pub record Framed (program : List ℕ) (next : ℕ) (o : Op) (depth : ℕ) (mem cells : List ℕ) (d : Done) : Type 0 where
+  pub inside : isFault (d .move) ≡ false → Inside (operandOf cells depth) program mem o
+  pub data-kept : (q : ℕ) → Out q (writesFrom (operandOf cells depth) o) (writesCount (operandOf cells depth) o) → getD (d .mem) q 0 ≡ getD mem q 0
+  pub cells-kept : (q : ℕ) → Out q (length cells - (depth - takenOf o + pushedOf o)) (pushedOf o) → getD (d .cells) q 0 ≡ getD cells q 0
