@@ -1,1 +1,2 @@
+-- The laws of `alu`.
 pub mod Products

@@ -1,1 +1,2 @@
+-- The definitions of `alu`.
 pub mod Values

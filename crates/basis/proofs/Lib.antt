@@ -1,3 +1,4 @@
+-- The laws of `basis`.
 pub mod Tests
 pub mod Tables
 pub mod Numbers

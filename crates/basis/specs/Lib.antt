@@ -1,3 +1,4 @@
+-- The definitions of `basis`.
 pub mod Pick
 pub mod Answer
 pub mod Number

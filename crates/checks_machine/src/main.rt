@@ -131,8 +131,16 @@ fn following(j: usize, n: usize) -> usize
     j + 1
 }
 
+// A budget of one asks the single step.
+fn answer(program: &[u8], data: &mut [u8], cells: &mut [u16], state: State, budget: u32) -> Ran {
+    if budget == 1 {
+        return state.step(program, data, cells);
+    }
+    state.run(program, data, cells, budget)
+}
+
 fn ask(program: &[u8], data: &mut [u8], cells: &mut [u16], state: State, budget: u32) {
-    let ran = state.run(program, data, cells, budget);
+    let ran = answer(program, data, cells, state, budget);
     say_answer(ran);
     say_bytes(data);
     say_cells(cells);

@@ -1,1 +1,2 @@
+-- The laws of `copies`.
 pub mod Copies

@@ -1,1 +1,2 @@
+-- The laws of `dispatch`.
 pub mod First

@@ -1,1 +1,2 @@
+-- The definitions of `dispatch`.
 pub mod First

@@ -1,6 +1,5 @@
-// The first bytes 25 to 40: a number of one byte.
+// The first bytes 25 to 40: a number of one byte. Written by tools/dispatch.
 ghost use mathlib.Core.Path.{_≡_};
-ghost use Prim.Native.Nat.{_≤_};
 ghost use Rattle.effects.specs.Act.{done};
 ghost use Rattle.dispatch.specs.First.{firstOf, Begun};
 use crate::numbered::branch_byte;

@@ -1,4 +1,4 @@
-// One instruction, told by its first byte: an arm for each, so that a step is one jump.
+// One instruction, told by its first byte: an arm for each of 00 to 5A, so that a step is one jump.
 mod bytes;
 mod numbered;
 mod plain;

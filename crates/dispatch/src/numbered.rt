@@ -1,4 +1,5 @@
 // Operations whose number stands in the code, in one byte or in two: the number is read, and the operation done with it.
+// Written by tools/dispatch.
 ghost use mathlib.Core.Path.{_≡_};
 ghost use mathlib.Core.List.{List};
 ghost use Prim.Native.Nat.{ℕ, _+_, _*_, _<_, _≤_};

@@ -1,6 +1,5 @@
-// The first bytes 00 to 24: no number in the code.
+// The first bytes 00 to 24: no number in the code. Written by tools/dispatch.
 ghost use mathlib.Core.Path.{_≡_};
-ghost use Prim.Native.Nat.{_≤_};
 ghost use Rattle.effects.specs.Act.{done};
 ghost use Rattle.dispatch.specs.First.{firstOf, Begun};
 use crate::bytes::bytes;

@@ -1,6 +1,5 @@
 // The first bytes 5B to FF: illegal, a push of six bits, a push of values.
 ghost use mathlib.Core.Path.{_≡_};
-ghost use Prim.Native.Nat.{_≤_};
 ghost use Rattle.effects.specs.Act.{done};
 ghost use Rattle.dispatch.specs.First.{firstOf, Begun};
 use effects::Move;

@@ -1,6 +1,5 @@
-// The first bytes 41 to 5A: a number of two bytes.
+// The first bytes 41 to 5A: a number of two bytes. Written by tools/dispatch.
 ghost use mathlib.Core.Path.{_≡_};
-ghost use Prim.Native.Nat.{_≤_};
 ghost use Rattle.effects.specs.Act.{done};
 ghost use Rattle.dispatch.specs.First.{firstOf, Begun};
 use crate::numbered::branch_word;

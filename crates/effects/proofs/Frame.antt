@@ -3,27 +3,33 @@
 -- Assumes nothing.
 use Prim.Native.Nat.{ℕ, zero, suc, _+_, _-_, _≤_}
 use native.Mathlib.Omega.{arith}
-use mathlib.Core.Path.{_≡_, refl, sym, _∙_}
+use native.Mathlib.Numerals.{add-one}
+use mathlib.Core.Path.{_≡_, refl, sym, ap, _∙_, subst}
 use mathlib.Core.Logic.{inl, inr, _≢_}
 use mathlib.Core.Bool.{Bool, true, false}
 use mathlib.Core.List.{List, [], _∷_}
 use lib.ListN.{length, getD, set, take, drop, length-set, length-take}
 use lib.Seq.{sets, getD-set-other}
 use lib.Dec.{ltb, eqb}
-use borrow.Author.Tests.{leb-true, ltb-false}
+use borrow.Author.Tests.{leb-true, ltb-true, ltb-false}
 use Rattle.basis.specs.Pick.{pick}
-use Rattle.basis.specs.Answer.{given, refused}
+use Rattle.basis.specs.Answer.{given}
 use Rattle.basis.specs.Number.{bytesOf}
 use Rattle.basis.proofs.Numbers.{length-bytes}
 use Rattle.basis.proofs.Tests.{false-true}
 use Rattle.isa.specs.Op.{Op}
-use Rattle.isa.specs.Shape.{takenOf, pushedOf, depthAfter}
+use Rattle.isa.specs.Shape.{takenOf, pushedOf, wayOf}
+use Rattle.isa.specs.Op.{opOf}
+use Rattle.isa.specs.Decode.{decodeOf}
+use Rattle.isa.specs.declared.Instruction.{Instruction}
 use Rattle.isa.specs.declared.Route.{Route}
 use Rattle.effects.specs.Memory.{operandOf, pushed, good, copied}
-use Rattle.effects.specs.Effect.{Effect, fails, leaves, placeOf, routed, effectOf}
-use Rattle.effects.specs.Act.{done, onEffect, onStack, doOf}
+use Rattle.effects.specs.Effect.{Effect, fails, leaves, placeOf, routed, effectOf, Going, stays, goes, goingOf}
+use Rattle.effects.specs.Act.{Done, done, moveOf, onEffect, doOf, actOf}
 use Rattle.effects.specs.declared.Move.the-variants.{Fault}
-use Rattle.effects.specs.Reach.{writesFrom, writesCount, Inside, Out, Framed}
+use Rattle.effects.proofs.Opens.{few, full, opened}
+use Rattle.effects.proofs.Keeps.{Keeps, do-deep}
+use Rattle.effects.specs.Reach.{isFault, writesFrom, writesCount, InRange, Out, Framed}
 use Rattle.isa.specs.Op as op
 use Rattle.isa.specs.declared.Route.the-variants as route
 
@@ -46,8 +52,7 @@ out-less q from n k l (inr h) = inr (omega arith)
 
 -- copies
 out-one : (q a c : ℕ) → Out q a (suc c) → Out q (a + 1) c
-out-one q a c (inl h) = inl (omega arith)
-out-one q a c (inr h) = inr (omega arith)
+out-one q a c h = subst (λ (x : ℕ). Out q x c) (sym (add-one a)) (out-next q a c h)
 
 pub copied-out : (c a b : ℕ) (mem : List ℕ) (q : ℕ) → Out q a c → getD (copied c a b mem) q 0 ≡ getD mem q 0
 unfolding copied
@@ -83,19 +88,19 @@ ranged false x n mem vs e = absurd (fails-leaves n mem vs e)
 
 -- what an effect that does not fail shows: its ranges, how many values it pushes, and the bytes that it keeps
 pub record Shown (program mem mem′ vs : List ℕ) (arg : ℕ → ℕ) (o : Op) : Type 0 where
-  pub inside : Inside arg program mem o
+  pub inside : InRange arg program mem o
   pub pushes : length vs ≡ pushedOf o
   pub keeps : (q : ℕ) → Out q (writesFrom arg o) (writesCount arg o) → getD mem′ q 0 ≡ getD mem q 0
 
 module _ (program mem : List ℕ) (arg : ℕ → ℕ) (next : ℕ) (mem′ vs : List ℕ) where
   -- the data is as it was
-  still : (o : Op) (us : List ℕ) → leaves mem us ≡ leaves mem′ vs → Inside arg program mem o → length us ≡ pushedOf o → Shown program mem mem′ vs arg o
+  still : (o : Op) (us : List ℕ) → leaves mem us ≡ leaves mem′ vs → InRange arg program mem o → length us ≡ pushedOf o → Shown program mem mem′ vs arg o
   still o us e i l =
       let a = leaves-mem mem mem′ us vs e in
       let b = leaves-values mem mem′ us vs e in
       record { inside = i; pushes = rw (← b) l; keeps = λ q h. rw (← a) }
 
-  shown-route : (o : Op) (r : Route) (x : ℕ) → Inside arg program mem o → pushedOf o ≡ pushedOf (op.Taken r) → routed program mem arg next r x ≡ leaves mem′ vs → Shown program mem mem′ vs arg o
+  shown-route : (o : Op) (r : Route) (x : ℕ) → InRange arg program mem o → pushedOf o ≡ pushedOf (op.Taken r) → routed program mem arg next r x ≡ leaves mem′ vs → Shown program mem mem′ vs arg o
   shown-route o route.Call x i p e = still o (next ∷ []) e i (sym p)
   shown-route o route.Jump x i p e = still o [] e i (sym p)
   shown-route o route.JumpIf x i p e = still o [] e i (sym p)
@@ -149,31 +154,57 @@ module _ (program mem : List ℕ) (arg : ℕ → ℕ) (next : ℕ) (mem′ vs : 
   shown-effect (op.Push us) e = still (op.Push us) us e tt refl
   shown-effect op.NoOp e = still op.NoOp [] e tt refl
 
-module _ (program : List ℕ) (next : ℕ) (o : Op) (depth : ℕ) (mem cells : List ℕ) where
-  faulted : (n : ℕ) → Framed program next o depth mem cells (done (Fault n 0) mem cells)
-  faulted n = record { inside = λ h. absurd (false-true (sym h)); data-kept = λ q h. refl; cells-kept = λ q h. refl }
+going-no-fault : (e : ℕ) (g : Going) → isFault (moveOf e g) ≡ true → ⊥
+going-no-fault e stays h = false-true h
+going-no-fault e (goes a) h = false-true h
 
-  framed-effect : depth - takenOf o + pushedOf o ≤ length cells → (x : Effect) → effectOf program mem (operandOf cells depth) next o ≡ x
-      → Framed program next o depth mem cells (onEffect program next o depth mem cells (depth - takenOf o + pushedOf o) x)
-  framed-effect l (fails n) e = faulted n
-  framed-effect l (leaves mem′ vs) e =
-      let s = shown-effect program mem (operandOf cells depth) next mem′ vs o e in
-      let p = s .pushes in
+module _ (program : List ℕ) (next : ℕ) (o : Op) (depth : ℕ) (mem cells : List ℕ) where
+  faulted : (n : ℕ) → Framed program o depth mem cells (done (Fault n 0) mem cells)
+  faulted n =
       record {
-        inside = λ h. s .inside;
-        data-kept = s .keeps;
-        cells-kept = λ q h. pushed-out vs cells (depth - takenOf o) q (rw p l) (rw p h);
+        in-range = λ h. absurd (false-true (sym h));
+        fault-keeps = λ h. (refl, refl);
+        data-length = refl;
+        cells-length = refl;
+        data-kept = λ q h. refl;
+        cells-kept = λ q h. refl;
       }
 
-  -- every access that succeeds lies inside the memories; nothing outside the ranges named changes, of data or of cells
-  pub framed : Framed program next o depth mem cells (doOf program next o depth mem cells)
-  unfolding doOf depthAfter
-  framed = by (ltb depth (takenOf o)) (ltb (length cells) after) refl
-    where
-      after : ℕ
-      after = depth - takenOf o + pushedOf o
+  abbrev after : ℕ
+  after = depth - takenOf o + pushedOf o
 
-      by : (t u : Bool) → ltb (length cells) after ≡ u → Framed program next o depth mem cells (onStack program next o depth mem cells (pick t (refused 4) (pick u (refused 5) (given after))))
-      by true u h = faulted 4
-      by false true h = faulted 5
-      by false false h = framed-effect (ltb-false (length cells) after h) (effectOf program mem (operandOf cells depth) next o) refl
+  framed-effect : after ≤ length cells → Keeps mem cells (onEffect program next o depth mem cells after (effectOf program mem (operandOf cells depth) next o))
+      → Framed program o depth mem cells (onEffect program next o depth mem cells after (effectOf program mem (operandOf cells depth) next o))
+  framed-effect l k = by (effectOf program mem (operandOf cells depth) next o) refl k
+    where
+      by : (x : Effect) → effectOf program mem (operandOf cells depth) next o ≡ x → Keeps mem cells (onEffect program next o depth mem cells after x)
+          → Framed program o depth mem cells (onEffect program next o depth mem cells after x)
+      by (fails n) e k = faulted n
+      by (leaves mem′ vs) e k =
+          let s = shown-effect program mem (operandOf cells depth) next mem′ vs o e in
+          let p = s .pushes in
+          record {
+            in-range = λ h. s .inside;
+            fault-keeps = λ h. absurd (going-no-fault _ (goingOf (operandOf cells depth) next (wayOf o)) h);
+            data-length = k .mem-length;
+            cells-length = k .cells-length;
+            data-kept = s .keeps;
+            cells-kept = λ q h. pushed-out vs cells (depth - takenOf o) q (rw p l) (rw p h);
+          }
+
+  pub framed : Framed program o depth mem cells (doOf program next o depth mem cells)
+  framed = by (ltb depth (takenOf o)) (ltb (length cells) after) refl refl
+    where
+      by : (t u : Bool) → ltb depth (takenOf o) ≡ t → ltb (length cells) after ≡ u → Framed program o depth mem cells (doOf program next o depth mem cells)
+      by true u h k = rw (few program next o depth mem cells (ltb-true _ _ h)) (faulted 4)
+      by false true h k = rw (full program next o depth mem cells (ltb-false _ _ h) (ltb-true _ _ k)) (faulted 5)
+      by false false h k =
+          let l = ltb-false (length cells) after k in
+          let e = opened program next o depth mem cells after (ltb-false _ _ h) refl l in
+          rw e (framed-effect l (rw e at (do-deep program next o depth mem cells)))
+
+-- every access that succeeds lies in range; nothing outside the ranges named changes, of data or of cells
+pub act-framed : (program : List ℕ) (address depth : ℕ) (mem cells : List ℕ) (i : Instruction) (n : ℕ) → decodeOf program address ≡ given (i, n)
+    → Framed program (opOf i) depth mem cells (actOf program address depth mem cells)
+unfolding actOf
+act-framed program address depth mem cells i n e = rw e (framed program (address + n) (opOf i) depth mem cells)

@@ -1,3 +1,4 @@
+-- The laws of `effects`.
 pub mod Opens
 pub mod Keeps
 pub mod Frame

@@ -29,7 +29,7 @@ module _ (program : List ℕ) (next : ℕ) (o : Op) (depth : ℕ) (mem cells : L
   full t h = rw (le-ltb depth (takenOf o) t, lt-ltb (length cells) (depth - takenOf o + pushedOf o) h)
 
   module _ (e : ℕ) (t : takenOf o ≤ depth) (s : depth - takenOf o + pushedOf o ≡ e) (r : e ≤ length cells) where
-    opened : doOf program next o depth mem cells ≡ onEffect program next o depth mem cells e (effectOf program mem (operandOf cells depth) next o)
+    pub opened : doOf program next o depth mem cells ≡ onEffect program next o depth mem cells e (effectOf program mem (operandOf cells depth) next o)
     unfolding doOf depthAfter
     opened = rw (le-ltb depth (takenOf o) t, s, le-ltb (length cells) e r)
 

@@ -20,7 +20,8 @@ pub record Done : Type 0 where
 abbrev pub done : Move → List ℕ → List ℕ → Done
 done m d c = record { move = m; mem = d; cells = c }
 
--- on to an address, or "halt and keep the address"
+-- on to an address, or "halt and keep the address"; the 0 of a halt, and that of a fault below, only fill the second place
+-- that every move has
 abbrev pub moveOf : ℕ → Going → Move
 moveOf depth stays = Halt 0 depth
 moveOf depth (goes address) = To address depth

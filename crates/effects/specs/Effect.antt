@@ -20,7 +20,8 @@ pub data Effect : Type 0 where
   fails : ℕ → Effect
   leaves : List ℕ → List ℕ → Effect
 
--- Operand 0 is a, 1 is b, 2 is c.
+-- The operands come as a function: operand 0 is a, 1 is b, 2 is c.
+
 -- the address of a load or a store that takes n operands for it: x, x+a, or x+a+b, "exact whole numbers"
 abbrev pub placeOf : (ℕ → ℕ) → ℕ → ℕ → ℕ
 placeOf arg zero x = x

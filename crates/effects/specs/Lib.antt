@@ -1,3 +1,4 @@
+-- The definitions of `effects`.
 pub mod Memory
 pub mod Effect
 pub mod Act

@@ -55,28 +55,32 @@ module _ (arg : ℕ → ℕ) where
   writesCount op.NoOp = 0
 
   -- the ranges that it reads or writes lie inside their memories, as whole-number sums
-  abbrev pub Inside : List ℕ → List ℕ → Op → Type 0
-  Inside program mem op.Halt = Unit {0}
-  Inside program mem op.Discard = Unit {0}
-  Inside program mem op.DataCopy = (arg 0 + arg 2 ≤ length mem) × (arg 1 + arg 2 ≤ length mem)
-  Inside program mem op.ProgramCopy = (arg 0 + arg 2 ≤ length mem) × (arg 1 + arg 2 ≤ length program)
-  Inside program mem op.Swap = Unit {0}
-  Inside program mem (op.Taken r) = Unit {0}
-  Inside program mem (op.Given r x) = Unit {0}
-  Inside program mem (op.Two p) = Unit {0}
-  Inside program mem (op.TwoNumber p x) = Unit {0}
-  Inside program mem (op.One s) = Unit {0}
-  Inside program mem (op.Load w n x) = placeOf arg n x + w ≤ length mem
-  Inside program mem (op.Store w n x) = placeOf arg n x + w ≤ length mem
-  Inside program mem (op.Push vs) = Unit {0}
-  Inside program mem op.NoOp = Unit {0}
+  abbrev pub InRange : List ℕ → List ℕ → Op → Type 0
+  InRange program mem op.Halt = Unit {0}
+  InRange program mem op.Discard = Unit {0}
+  InRange program mem op.DataCopy = (arg 0 + arg 2 ≤ length mem) × (arg 1 + arg 2 ≤ length mem)
+  InRange program mem op.ProgramCopy = (arg 0 + arg 2 ≤ length mem) × (arg 1 + arg 2 ≤ length program)
+  InRange program mem op.Swap = Unit {0}
+  InRange program mem (op.Taken r) = Unit {0}
+  InRange program mem (op.Given r x) = Unit {0}
+  InRange program mem (op.Two p) = Unit {0}
+  InRange program mem (op.TwoNumber p x) = Unit {0}
+  InRange program mem (op.One s) = Unit {0}
+  InRange program mem (op.Load w n x) = placeOf arg n x + w ≤ length mem
+  InRange program mem (op.Store w n x) = placeOf arg n x + w ≤ length mem
+  InRange program mem (op.Push vs) = Unit {0}
+  InRange program mem op.NoOp = Unit {0}
 
 -- a place outside so many places from another
 abbrev pub Out : ℕ → ℕ → ℕ → Type 0
 Out q from n = (q < from) ⊎ (from + n ≤ q)
 
--- what was done reached only there: every access that succeeds lies inside, and the rest keeps what it held
-pub record Framed (program : List ℕ) (next : ℕ) (o : Op) (depth : ℕ) (mem cells : List ℕ) (d : Done) : Type 0 where
-  pub inside : isFault (d .move) ≡ false → Inside (operandOf cells depth) program mem o
+-- what was done reached only there: every access that succeeds lies in range, the rest keeps what it held, no memory grows
+-- or shrinks, and "A fault alters only the status"
+pub record Framed (program : List ℕ) (o : Op) (depth : ℕ) (mem cells : List ℕ) (d : Done) : Type 0 where
+  pub in-range : isFault (d .move) ≡ false → InRange (operandOf cells depth) program mem o
+  pub fault-keeps : isFault (d .move) ≡ true → (d .mem ≡ mem) × (d .cells ≡ cells)
+  pub data-length : length (d .mem) ≡ length mem
+  pub cells-length : length (d .cells) ≡ length cells
   pub data-kept : (q : ℕ) → Out q (writesFrom (operandOf cells depth) o) (writesCount (operandOf cells depth) o) → getD (d .mem) q 0 ≡ getD mem q 0
   pub cells-kept : (q : ℕ) → Out q (length cells - (depth - takenOf o + pushedOf o)) (pushedOf o) → getD (d .cells) q 0 ≡ getD cells q 0

@@ -1,3 +1,4 @@
+-- The laws of `encoder`.
 pub mod Wells
 pub mod Back
 pub mod Forth

@@ -1,1 +1,2 @@
+-- The definitions of `encoder`.
 pub mod Encode

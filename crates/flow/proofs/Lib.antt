@@ -1,1 +1,2 @@
+-- The laws of `flow`.
 pub mod Branches

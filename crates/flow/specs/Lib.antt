@@ -1,1 +1,2 @@
+-- The definitions of `flow`.
 pub mod Branch

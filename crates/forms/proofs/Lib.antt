@@ -1,1 +1,2 @@
+-- The laws of `forms`.
 pub mod Widths

@@ -1,1 +1,2 @@
+-- The definitions of `forms`.
 pub mod Form

@@ -11,12 +11,13 @@ use Rattle.basis.specs.Pick.{pick}
 use Rattle.machine.specs.Machine.{Machine, stepOf}
 use Rattle.machine.specs.Run.{came, isRunning, isFaulted, runOf, outcomeOf}
 use Rattle.machine.specs.Refusals.{Allowed}
-use Rattle.machine.proofs.Runs.{run-told, told-run}
+use Rattle.machine.specs.Trace.{Told}
+use Rattle.machine.proofs.Runs.{run-used, run-told, told-run}
 use Rattle.machine.proofs.Answers.{over-refused, allowed-runs, over-or-allowed}
-use Rattle.effects.proofs.Frame.{framed}
+use Rattle.effects.proofs.Frame.{act-framed}
 use Rattle.encoder.proofs.Trips.{read-stands, stands-read, written-read, read-written, encoded-one}
 use Rattle.isa.proofs.Refuses.{refusal-why, why-refusal}
-use Rattle.guarantee.specs.Demands.{IsRefused, HasAnswer, IsStepByStep, NoSumWraps, IsRead, IsWrittenAgain, IsReadAgain, RefusesExactly, BytesTellApart}
+use Rattle.guarantee.specs.Demands.{IsRefused, HasAnswer, IsStepByStep, NoneAtZero, NoSumWraps, IsRead, IsWrittenAgain, IsReadAgain, RefusesExactly, BytesTellApart}
 
 pub is-refused : IsRefused
 unfolding IsRefused
@@ -38,22 +39,26 @@ pub has-answer : HasAnswer
 unfolding HasAnswer
 has-answer budget program m = ⊎-elim (λ o. inl o) (λ a. inr (allowed a)) (over-or-allowed program m)
   where
-    allowed : Allowed program m → (m′ : Machine) × (k : ℕ) × (outcomeOf budget program m ≡ came m′ k) × (k ≤ budget)
+    allowed : Allowed program m → (m′ : Machine) × (k : ℕ) × (outcomeOf budget program m ≡ came m′ k) × (k ≤ budget) × Told program budget m m′ k
     allowed a =
         let r = ends budget 0 program m in
-        let t = run-told program budget 0 m (r .0) (r .1) (r .2) in
-        (r .0, r .1, allowed-runs budget program m a ∙ r .2, omega (arith, t .counted, t .budget))
+        let t = run-told program budget m (r .0) (r .1) (r .2) in
+        (r .0, r .1, allowed-runs budget program m a ∙ r .2, omega (arith, t .within), t)
 
 pub is-step-by-step : IsStepByStep
 unfolding IsStepByStep
 is-step-by-step = (
-  (λ budget count program m m′ a e. run-told program budget 0 m m′ count (sym (allowed-runs budget program m a) ∙ e)),
+  (λ budget count program m m′ a e. run-told program budget m m′ count (sym (allowed-runs budget program m a) ∙ e)),
   (λ steps left program m last m′ a t e. allowed-runs (steps + left) program m a ∙ told-run program 0 steps left m last m′ t e ∙ ap (λ (k : ℕ). came m′ k) (zero-add steps)),
 )
 
+pub none-at-zero : NoneAtZero
+unfolding NoneAtZero
+none-at-zero program m a = allowed-runs 0 program m a ∙ run-used program m 0 0 refl
+
 pub no-sum-wraps : NoSumWraps
 unfolding NoSumWraps
-no-sum-wraps program next o depth mem cells = framed program next o depth mem cells
+no-sum-wraps program m i n e = act-framed program (m .state .address) (m .state .depth) (m .mem) (m .cells) i n e
 
 pub is-read : IsRead
 unfolding IsRead

@@ -1,2 +1,3 @@
+-- The laws of `guarantee`.
 pub mod Demands
 pub mod Marked

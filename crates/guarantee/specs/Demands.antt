@@ -13,9 +13,9 @@ use Rattle.basis.specs.Room.{roomAfter}
 use Rattle.isa.specs.Decode.{decodeOf}
 use Rattle.isa.specs.Refusals.{Why}
 use Rattle.isa.specs.declared.Instruction.{Instruction}
-use Rattle.isa.specs.Op.{Op}
+use Rattle.isa.specs.Op.{opOf}
 use Rattle.encoder.specs.Encode.{wellFormed, encodedOf, encodeOf}
-use Rattle.effects.specs.Act.{doOf}
+use Rattle.effects.specs.Act.{actOf}
 use Rattle.effects.specs.Reach.{Framed}
 use Rattle.machine.specs.Machine.{Machine}
 use Rattle.machine.specs.Run.{came, outcomeOf}
@@ -31,11 +31,11 @@ unfoldable pub IsRefused : Type 0
 IsRefused = (budget : ℕ) (program : List ℕ) (m : Machine) (n : ℕ) → Over program m n → outcomeOf budget program m ≡ refusedRun n m
 
 -- "Any bytes, any lengths and any saved state get an answer, and every call ends": a run that no number refuses takes its
--- steps, no more than its budget, and ends paused, stopped or faulted.
+-- steps, no more than its budget, and ends paused, stopped or faulted (`Told`).
 unfoldable pub HasAnswer : Type 0
 HasAnswer =
     (budget : ℕ) (program : List ℕ) (m : Machine)
-    → ((n : ℕ) × Over program m n) ⊎ ((m′ : Machine) × (k : ℕ) × (outcomeOf budget program m ≡ came m′ k) × (k ≤ budget))
+    → ((n : ℕ) × Over program m n) ⊎ ((m′ : Machine) × (k : ℕ) × (outcomeOf budget program m ≡ came m′ k) × (k ≤ budget) × Told program budget m m′ k)
 
 -- Demand 2.
 
@@ -44,14 +44,21 @@ HasAnswer =
 -- reached is handed back.
 unfoldable pub IsStepByStep : Type 0
 IsStepByStep =
-    ((budget count : ℕ) (program : List ℕ) (m m′ : Machine) → Allowed program m → outcomeOf budget program m ≡ came m′ count → Told program budget 0 m m′ count)
+    ((budget count : ℕ) (program : List ℕ) (m m′ : Machine) → Allowed program m → outcomeOf budget program m ≡ came m′ count → Told program budget m m′ count)
     × ((steps left : ℕ) (program : List ℕ) (m last m′ : Machine) → Allowed program m → Took program m steps last → Ends program last left m′
     → outcomeOf (steps + left) program m ≡ came m′ steps)
 
--- "No address sum wraps": an operation that does not fault has its ranges inside the memories, their sums being whole
--- numbers; and every byte outside the range that it names, and every cell outside those that it pushes into, keeps what it held.
+-- A fault "needs a budget of at least one": with none, an allowed run hands back what it was given, no step counted.
+unfoldable pub NoneAtZero : Type 0
+NoneAtZero = (program : List ℕ) (m : Machine) → Allowed program m → outcomeOf 0 program m ≡ came m 0
+
+-- "No address sum wraps": a step that does not fault has the ranges of its instruction inside the memories, their sums being
+-- whole numbers; every byte outside the range that it names, and every cell outside those that it pushes into, keeps what it
+-- held; and a fault alters no byte and no cell (`Framed`).
 unfoldable pub NoSumWraps : Type 0
-NoSumWraps = (program : List ℕ) (next : ℕ) (o : Op) (depth : ℕ) (mem cells : List ℕ) → Framed program next o depth mem cells (doOf program next o depth mem cells)
+NoSumWraps =
+    (program : List ℕ) (m : Machine) (i : Instruction) (n : ℕ) → decodeOf program (m .state .address) ≡ given (i, n)
+    → Framed program (opOf i) (m .state .depth) (m .mem) (m .cells) (actOf program (m .state .address) (m .state .depth) (m .mem) (m .cells))
 
 -- "Every well-formed instruction .. is read": wherever its bytes stand in an admissible program, the decoder gives it.
 unfoldable pub IsRead : Type 0

@@ -1,2 +1,3 @@
+-- The definitions of `guarantee`.
 pub mod Demands
 pub mod Marked

@@ -1,3 +1,4 @@
+-- The laws of `isa`.
 pub mod Codes
 pub mod Answers
 pub mod Refuses

@@ -14,6 +14,7 @@ use borrow.Author.Tests.{lt-ltb, le-ltb, le-leb, lt-leb, eq-eqb, ne-eqb, ltb-tru
 use Rattle.basis.specs.Pick.{pick}
 use Rattle.basis.specs.Answer.{Answer, given, refused}
 use Rattle.basis.specs.Number.{numberAt, Bytes}
+use Rattle.basis.proofs.Tests.{refused-given}
 use Rattle.basis.proofs.Numbers.{number-lt, bytes-drop}
 use Rattle.forms.specs.Form.{formOf, codeOf, lengthOf, limitIn}
 use Rattle.forms.specs.declared.Form.{Form}
@@ -54,9 +55,6 @@ module _ (p : List ℕ) (at : ℕ) where
   unfolding headOf
   head-at = rw (first-byte, length-drop)
 
-given-refused : {A : Type 0} (a : A) (k : ℕ) → given a ≡ refused k → ⊥
-given-refused a k e = let z : _≡_ {A = ℕ} 0 1 = cc in omega arith
-
 why : (p : List ℕ) (at j k : ℕ) → Why p at j → _≡_ {A = Answer Reading} (refused j) (refused k) → Why p at k
 why p at j k w e = let q : j ≡ k = cc in rw (← q) w
 
@@ -83,7 +81,7 @@ refusal-why p at k h e = go (ltb 16384 (length p)) (leb (length p) at) refl refl
             let m = eqb-false (lengthOf b) 0 x in
             let c = ltb-true (length p - at) (lengthOf b) y in
             why p at 3 k (cut i (omega arith) (omega arith)) (rw (x, y) at (sym (head-at p at) ∙ d))
-        by false false true x y z = absurd (given-refused _ k (rw (x, y, z) at (sym (head-at p at) ∙ d)))
+        by false false true x y z = absurd (refused-given k _ (sym (rw (x, y, z) at (sym (head-at p at) ∙ d))))
         by false false false x y z =
             let m = eqb-false (lengthOf b) 0 x in
             let c = ltb-false (length p - at) (lengthOf b) y in

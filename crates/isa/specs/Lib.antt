@@ -1,3 +1,4 @@
+-- The definitions of `isa`.
 pub mod Op
 pub mod Shape
 pub mod Decode

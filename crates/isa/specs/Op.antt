@@ -12,6 +12,7 @@ use Rattle.isa.specs.declared.Instruction.{Instruction}
 use Rattle.isa.specs.declared.Route.{Route}
 use Rattle.isa.specs.declared.Route.the-variants.{Call, Jump, JumpIf, JumpIfNot, System, Extension}
 
+-- NoOp stands for a code that is none.
 -- Taken goes where the stack says, Given where the number in the code says. A load has the bytes that it reads, how many
 -- operands it takes for its address, and the number that is added to them; a store the same, and takes its value last.
 pub data Op : Type 0 where

@@ -1,3 +1,4 @@
+-- The laws of `machine`.
 pub mod Runs
 pub mod Loop
 pub mod Answers

@@ -1,3 +1,4 @@
+-- The definitions of `machine`.
 pub mod Machine
 pub mod Run
 pub mod Trace

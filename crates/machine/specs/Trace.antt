@@ -23,12 +23,10 @@ pub data Ends (program : List ℕ) (m : Machine) : ℕ → Machine → Type 0 wh
   stopped : {left : ℕ} → running m ≡ false → Ends program m left m
   faults : {left : ℕ} → running m ≡ true → faulted (stepOf program m) ≡ true → Ends program m (suc left) (stepOf program m)
 
--- what a run of budget n, k steps being counted, handed back: so many steps, and how it ended with the budget left
-pub record Told (program : List ℕ) (n k : ℕ) (m m′ : Machine) (count : ℕ) : Type 0 where
-  pub steps : ℕ
+-- what a run of this budget handed back: the counted steps lead to a last machine, where it ended with the budget left
+pub record Told (program : List ℕ) (budget : ℕ) (m m′ : Machine) (count : ℕ) : Type 0 where
   pub left : ℕ
   pub last : Machine
-  pub counted : count ≡ k + steps
-  pub budget : n ≡ steps + left
-  pub took : Took program m steps last
+  pub within : budget ≡ count + left
+  pub took : Took program m count last
   pub ends : Ends program last left m′

@@ -1,1 +1,2 @@
+-- The laws of `memory`.
 pub mod Accesses

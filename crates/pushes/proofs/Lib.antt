@@ -1,2 +1,3 @@
+-- The laws of `pushes`.
 pub mod Pushed
 pub mod Values

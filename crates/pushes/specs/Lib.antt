@@ -1,1 +1,2 @@
+-- The definitions of `pushes`.
 pub mod Values

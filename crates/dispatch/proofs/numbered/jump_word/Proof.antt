@@ -1,4 +1,4 @@
--- `dispatch::jump_word` meets its contract: the word is there or cut, and the operation does the rest.
+-- `dispatch::jump_word` meets its contract: the word is there or cut, and the operation does the rest. Written by tools/dispatch.
 -- Assumes nothing.
 use Prim.Native.Nat.{_+_}
 use borrow.Author.Needs.{needs}

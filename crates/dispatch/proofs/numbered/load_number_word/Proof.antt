@@ -1,6 +1,5 @@
--- `dispatch::load_number_word` meets its contract: the word is there or cut, and the operation does the rest.
+-- `dispatch::load_number_word` meets its contract: the word is there or cut, and the operation does the rest. Written by tools/dispatch.
 -- Assumes nothing.
-use Prim.Native.Nat.{_+_}
 use borrow.Author.Needs.{needs}
 use borrow.Author.Tests.{lt-ltb, le-ltb}
 use denote.Ref.{now}

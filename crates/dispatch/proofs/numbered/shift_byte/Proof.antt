@@ -1,6 +1,5 @@
--- `dispatch::shift_byte` meets its contract: the byte is there or cut, 0 to 15 or not, and the operation does the rest.
+-- `dispatch::shift_byte` meets its contract: the byte is there or cut, 0 to 15 or not, and the operation does the rest. Written by tools/dispatch.
 -- Assumes nothing.
-use Prim.Native.Nat.{_+_}
 use borrow.Author.Needs.{needs}
 use borrow.Author.Tests.{lt-ltb, le-ltb}
 use denote.Ref.{now}

@@ -1,6 +1,5 @@
--- `dispatch::store_number_byte` meets its contract: the byte is there or cut, and the operation does the rest.
+-- `dispatch::store_number_byte` meets its contract: the byte is there or cut, and the operation does the rest. Written by tools/dispatch.
 -- Assumes nothing.
-use Prim.Native.Nat.{_+_}
 use borrow.Author.Needs.{needs}
 use borrow.Author.Tests.{lt-ltb, le-ltb}
 use denote.Ref.{now}

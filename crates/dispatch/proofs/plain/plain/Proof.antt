@@ -1,4 +1,4 @@
--- `dispatch::plain` meets its contract: each arm is what the definition computes to at its byte.
+-- `dispatch::plain` meets its contract: each arm is what the definition computes to at its byte. Written by tools/dispatch.
 -- Assumes nothing.
 use Prim.Native.Nat.{_+_}
 use borrow.Author.Needs.{needs}

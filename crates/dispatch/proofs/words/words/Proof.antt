@@ -1,6 +1,5 @@
--- `dispatch::words` meets its contract: each arm is what the definition computes to at its byte.
+-- `dispatch::words` meets its contract: each arm is what the definition computes to at its byte. Written by tools/dispatch.
 -- Assumes nothing.
-use Prim.Native.Nat.{_+_}
 use borrow.Author.Needs.{needs}
 use denote.Ref.{now}
 use Rattle.forms.specs.Form.{formOf, codeOf}
