@@ -8,7 +8,6 @@
 //! empty, and the extended opcodes that 01 leaves out, are not in the table:
 //! their first bytes are illegal.
 
-use std::sync::LazyLock;
 
 use Operation::*;
 
@@ -197,10 +196,11 @@ impl Opcode {
     /// The row whose literal bits are those of a first byte; none where the
     /// byte is illegal.
     pub fn of(first: u8) -> Option<&'static Opcode> {
-        static ROWS: LazyLock<[Option<&'static Opcode>; 256]> = LazyLock::new(|| {
-            std::array::from_fn(|first| OPCODES.iter().find(|row| row.matches(&[first as u8])))
-        });
-        ROWS[usize::from(first)]
+        thread_local! {
+            static ROWS: [Option<&'static Opcode>; 256] =
+                std::array::from_fn(|first| OPCODES.iter().find(|row| row.matches(&[first as u8])));
+        }
+        ROWS.with(|rows| rows[usize::from(first)])
     }
 
     /// The code by which 01 names the instruction: its first byte with all

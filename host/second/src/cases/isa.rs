@@ -325,8 +325,9 @@ fn encode_varied(vectors: &mut Vectors) {
     let mut left = 400;
     while left > 0 {
         let bytes = varied.bytes(9);
-        let Ok((mut instruction, length)) = decode(&bytes, 0) else {
-            continue;
+        let (mut instruction, length) = match decode(&bytes, 0) {
+            Ok(read) => read,
+            Err(_) => continue,
         };
         let altered = varied.one_of(&EDGES);
         match varied.below(10) {
