@@ -1,0 +1,3 @@
+-- The laws of `verifier`.
+pub mod Foresees
+pub mod Safety

@@ -1,0 +1,4 @@
+-- The definitions of `verifier`.
+pub mod Paths
+pub mod Look
+pub mod Sealed
