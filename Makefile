@@ -2,8 +2,8 @@
 .PHONY: run test
 
 run:
-	@mkdir -p target && rt check readout >target/run.log 2>&1 || { cat target/run.log; exit 1; }
-	@target/bin/readout < examples/countdown.rex
+	@mkdir -p target && rt check packcheck >target/run.log 2>&1 || { cat target/run.log; exit 1; }
+	@tools/start packcheck < examples/nightly.pack
 
 test:
 	@.ci/run

@@ -3,8 +3,11 @@
 use Prim.Native.Nat.{ℕ}
 use native.Mathlib.Omega.{arith}
 use mathlib.Core.Path.{_≡_, refl}
+use mathlib.Core.Logic.{_⊎_, inl, inr, ⊎-elim, _≢_}
 use mathlib.Core.Bool.{Bool, true, false}
-use Rattle.basis.specs.Pick.{both}
+use lib.Dec.{eqb}
+use borrow.Author.Tests.{eqb-true, eqb-false}
+use Rattle.basis.specs.Pick.{pick, both}
 use Rattle.basis.specs.Answer.{given, refused}
 
 pub both-left : (a b : Bool) → both a b ≡ true → a ≡ true
@@ -17,6 +20,19 @@ both-right false b h = absurd (let z : _≡_ {A = ℕ} 0 1 = cc in omega arith)
 
 pub false-true : false ≡ true → ⊥
 false-true e = let z : _≡_ {A = ℕ} 0 1 = cc in omega arith
+
+-- by cases on a test
+pub test : (t : Bool) → (t ≡ true) ⊎ (t ≡ false)
+test true = inl refl
+test false = inr refl
+
+pub pick-cases : {A : Type 0} (P : A → Type 0) (t : Bool) (x y : A) → (t ≡ true → P x) → (t ≡ false → P y) → P (pick t x y)
+pick-cases P true x y f g = f refl
+pick-cases P false x y f g = g refl
+
+-- two numbers are the same or not
+pub same? : (x y : ℕ) → (x ≡ y) ⊎ (x ≢ y)
+same? x y = ⊎-elim (λ h. inl (eqb-true x y h)) (λ h. inr (eqb-false x y h)) (test (eqb x y))
 
 -- a refusal gives nothing
 pub refused-given : {A : Type 0} (n : ℕ) (a : A) → refused n ≡ given a → ⊥

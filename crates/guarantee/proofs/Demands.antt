@@ -3,10 +3,11 @@
 use Prim.Native.Nat.{ℕ, zero, suc, _+_, _≤_}
 use native.Mathlib.Omega.{arith}
 use native.Mathlib.Nat.{zero-add}
-use mathlib.Core.Path.{_≡_, refl, sym, ap, _∙_}
+use mathlib.Core.Path.{_≡_, refl, sym, ap, _∙_, subst}
 use mathlib.Core.Logic.{inl, inr, ⊎-elim}
 use mathlib.Core.Bool.{Bool, true, false}
-use mathlib.Core.List.{List}
+use mathlib.Core.List.{List, map}
+use lib.ListN.{length}
 use Rattle.basis.specs.Pick.{pick}
 use Rattle.machine.specs.Machine.{Machine, stepOf}
 use Rattle.machine.specs.Run.{came, isRunning, isFaulted, runOf, outcomeOf}
@@ -17,7 +18,23 @@ use Rattle.machine.proofs.Answers.{over-refused, allowed-runs, over-or-allowed}
 use Rattle.effects.proofs.Frame.{act-framed}
 use Rattle.encoder.proofs.Trips.{read-stands, stands-read, written-read, read-written, encoded-one}
 use Rattle.isa.proofs.Refuses.{refusal-why, why-refusal}
-use Rattle.guarantee.specs.Demands.{IsRefused, HasAnswer, IsStepByStep, NoneAtZero, NoSumWraps, IsRead, IsWrittenAgain, IsReadAgain, RefusesExactly, BytesTellApart}
+use Rattle.paths.specs.Paths.{Mapped}
+use Rattle.paths.specs.Walk.{cellOf}
+use Rattle.paths.proofs.Walks.{final, shows, accepted-fine, fine-accepted, accepted-mapped}
+use Rattle.look.specs.Look.{lookOf}
+use Rattle.look.proofs.Wrongs.{clear-fine, fine-clear}
+use Rattle.meeting.specs.Clash.{twoDepths}
+use Rattle.verifier.specs.Verify.{nameless, onWalk, verifyOf}
+use Rattle.verifier.proofs.Verdicts as verdicts
+use Rattle.safety.specs.Sealed.{Safe}
+use Rattle.safety.proofs.Safety.{sealed-safe}
+use Rattle.guarantee.proofs.Verdicts.{accepted-marks, refused-walk, early-refused, final-sealed, answer}
+use Rattle.rules.proofs.Forth.{packed-read, packed-rules}
+use Rattle.rules.proofs.Takes.{packable-written}
+use Rattle.rules.proofs.Trips as packs
+use Rattle.rules.proofs.Refuses as packs-refuse
+use Rattle.rules.proofs.Finds as finds
+use Rattle.guarantee.specs.Demands.{IsRefused, HasAnswer, IsStepByStep, NoneAtZero, NoSumWraps, IsRead, IsWrittenAgain, IsReadAgain, RefusesExactly, BytesTellApart, PackIsRead, PackIsWrittenAgain, PackIsReadAgain, PackRefusesExactly, FindsExactly, Early, long-program, many-cells, unlike-map, RefusesEarly, AcceptsExactly, WritesDepths, ShowsRefusals, RunsSafely, Answers}
 
 pub is-refused : IsRefused
 unfolding IsRefused
@@ -79,3 +96,72 @@ refuses-exactly = ((λ p at n b e. refusal-why p at n b e), (λ p at n w. why-re
 pub bytes-tell-apart : BytesTellApart
 unfolding BytesTellApart
 bytes-tell-apart i j h k e = encoded-one i j h k e
+
+pub pack-is-read : PackIsRead
+unfolding PackIsRead
+pack-is-read rs g = (packed-read rs g, packed-rules rs g)
+
+pub pack-is-written-again : PackIsWrittenAgain
+unfolding PackIsWrittenAgain
+pack-is-written-again s es room b h l = (packs.read-well-formed s es b h, packs.read-written s es room b h l)
+
+pub pack-is-read-again : PackIsReadAgain
+unfolding PackIsReadAgain
+pack-is-read-again = (
+  (λ tags cells lengths bodies room bytes w h. packs.written-read tags cells lengths bodies room bytes w h),
+  (λ rs room g h. packable-written rs room g h),
+)
+
+pub pack-refuses-exactly : PackRefusesExactly
+unfolding PackRefusesExactly
+pack-refuses-exactly = ((λ s n h. packs-refuse.refusal-why s n h), (λ s n w. packs-refuse.why-refusal s n w))
+
+pub finds-exactly : FindsExactly
+unfolding FindsExactly
+finds-exactly s w = ((λ r m. finds.rule-found s w r m), (λ tag e h. finds.found-rule s w tag e h), (λ tag n. finds.absent-refused s w tag n))
+
+pub refuses-early : RefusesEarly
+unfolding RefusesEarly
+refuses-early = ((λ program cells depths n h. early program cells depths n h), (λ program cells depths after n e. back program cells depths after n e))
+  where
+    early : (program : List ℕ) (cells : ℕ) (depths : List ℕ) (n : ℕ) → Early program cells depths n → verifyOf program cells depths ≡ (nameless n, depths)
+    early program cells depths n (long-program h) = sym (verdicts.long-program program cells depths h)
+    early program cells depths n (many-cells s h) = sym (verdicts.many-cells program cells depths s h)
+    early program cells depths n (unlike-map s c h) = sym (verdicts.unlike-map program cells depths s c h)
+
+    back : (program : List ℕ) (cells : ℕ) (depths after : List ℕ) (n : ℕ) → verifyOf program cells depths ≡ (nameless n, after) → Early program cells depths n
+    back program cells depths after n e = early-refused program cells depths after n e
+
+pub accepts-exactly : AcceptsExactly
+unfolding AcceptsExactly
+accepts-exactly = (
+  (λ program cells depths after e.
+      let m = accepted-marks program cells depths after e in
+      (m .admissible, fine-clear program cells (accepted-fine twoDepths (lookOf program cells) (length program) (m .marks) (m .walked)))),
+  (λ program cells depths a c.
+      let f = fine-accepted twoDepths (lookOf program cells) (length program) (clear-fine program cells c) in
+      (map cellOf (f .0), sym (verdicts.walks program cells depths (a .size) (a .few) (a .alike)) ∙ ap (onWalk (length program)) (f .1))),
+)
+
+pub writes-depths : WritesDepths
+unfolding WritesDepths
+writes-depths program cells depths after e =
+    let m = accepted-marks program cells depths after e in
+    subst (Mapped (lookOf program cells) (length program)) (sym (m .filled)) (accepted-mapped twoDepths (lookOf program cells) (length program) (m .marks) (m .walked))
+
+pub shows-refusals : ShowsRefusals
+unfolding ShowsRefusals
+shows-refusals program cells depths after n a e =
+    let r = refused-walk program cells depths after n a e in
+    (shows twoDepths (lookOf program cells) (length program) n a (r .0), r .1)
+
+pub runs-safely : RunsSafely
+unfolding RunsSafely
+runs-safely program cells depths after e budget count mem cs m′ a l o =
+    let m = accepted-marks program cells depths after e in
+    let s = final-sealed program cells (m .admissible .few) (m .marks) (final twoDepths (lookOf program cells) (length program) (m .marks) (m .walked) .0) in
+    subst (λ (d : List ℕ). Safe d m′) (sym (m .filled)) (sealed-safe program cells (map cellOf (m .marks)) s budget count mem cs m′ a l o)
+
+pub answers : Answers
+unfolding Answers
+answers program cells depths = answer program cells depths

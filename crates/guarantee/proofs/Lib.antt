@@ -1,3 +1,4 @@
--- The laws of `guarantee`.
+-- The theorems of `guarantee`.
+pub mod Verdicts
 pub mod Demands
 pub mod Marked

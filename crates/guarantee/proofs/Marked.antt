@@ -13,11 +13,14 @@ use Rattle.effects.specs.Memory.{copied}
 use Rattle.effects.specs.Act.{doOf, actOf}
 use Rattle.machine.specs.Machine.{stepOf}
 use Rattle.machine.specs.Run.{runOf, outcomeOf}
+use Rattle.paths.specs.Walk.{walk, turns, turn, lowest, meets, meet}
+use Rattle.look.specs.Look.{lookOf}
+use Rattle.verifier.specs.Verify.{verifyOf}
 use Rattle.guarantee.specs.Marked.{marked, AllHold, AnyData}
 
 pub all-hold : AllHold marked
-unfolding outcomeOf runOf stepOf actOf doOf copied depthAfter opOf opIn decodeOf headOf lengthOf formOf codeOf valueWidth ones
-all-hold = (refl, (refl, (refl, (refl, (refl, (refl, (refl, tt)))))))
+unfolding outcomeOf runOf stepOf actOf doOf copied depthAfter opOf opIn decodeOf headOf lengthOf formOf codeOf valueWidth ones verifyOf walk turns turn lowest meets meet lookOf
+all-hold = (refl, (refl, (refl, (refl, (refl, (refl, (refl, (refl, (refl, (refl, (refl, (refl, (refl, tt)))))))))))))
 
 pub any-data : AnyData
 unfolding AnyData outcomeOf runOf stepOf actOf doOf depthAfter opOf opIn decodeOf headOf lengthOf formOf codeOf valueWidth ones

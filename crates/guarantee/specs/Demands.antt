@@ -1,12 +1,10 @@
 -- The demands, sentence by sentence, as propositions over the definitions that the public functions are proved to meet.
--- Stated so far: of the first and the second demand what they say of runs and of instructions. Rule packs and the third
--- demand follow with the packs and the verifier.
-use Prim.Native.Nat.{ℕ, _+_, _≤_}
+use Prim.Native.Nat.{ℕ, _+_, _<_, _≤_}
 use mathlib.Core.Path.{_≡_}
-use mathlib.Core.Logic.{_⊎_}
+use mathlib.Core.Logic.{_⊎_, _≢_}
 use mathlib.Core.Bool.{true}
 use mathlib.Core.List.{List, _++_}
-use lib.ListN.{length, take, drop}
+use lib.ListN.{length, take, drop, replicate}
 use Rattle.basis.specs.Answer.{given, refused}
 use Rattle.basis.specs.Number.{Bytes}
 use Rattle.basis.specs.Room.{roomAfter}
@@ -17,11 +15,23 @@ use Rattle.isa.specs.Op.{opOf}
 use Rattle.encoder.specs.Encode.{wellFormed, encodedOf, encodeOf}
 use Rattle.effects.specs.Act.{actOf}
 use Rattle.effects.specs.Reach.{Framed}
-use Rattle.machine.specs.Machine.{Machine}
+use Rattle.machine.specs.Machine.{Machine, machine, fresh}
 use Rattle.machine.specs.Run.{came, outcomeOf}
 use Rattle.machine.specs.Run.{refused as refusedRun}
 use Rattle.machine.specs.Refusals.{Over, Allowed}
 use Rattle.machine.specs.Trace.{Took, Ends, Told}
+use Rattle.paths.specs.Paths.{Shown, Mapped}
+use Rattle.look.specs.Look.{lookOf}
+use Rattle.look.specs.Wrong.{Clear}
+use Rattle.meeting.specs.Clash.{twoDepths}
+use Rattle.verifier.specs.Verify.{good, names, nameless, verifyOf}
+use Rattle.safety.specs.Sealed.{Safe}
+use Rattle.pack.specs.Read.{readOf}
+use Rattle.pack.specs.Find.{findOf, bodyOf}
+use Rattle.pack.specs.declared.Entry.{Entry}
+use Rattle.packer.specs.Write.{writeOf}
+use Rattle.rules.specs.Rules.{Rule, contentsFor, packed, Among, Packable, WellFormed, ruleOf, rulesOf, writeRules, PartsOf, Words}
+use Rattle.rules.specs.Refusals.{Why as WhyPack}
 
 -- Demand 1.
 
@@ -36,6 +46,19 @@ unfoldable pub HasAnswer : Type 0
 HasAnswer =
     (budget : ℕ) (program : List ℕ) (m : Machine)
     → ((n : ℕ) × Over program m n) ⊎ ((m′ : Machine) × (k : ℕ) × (outcomeOf budget program m ≡ came m′ k) × (k ≤ budget) × Told program budget m m′ k)
+
+-- The verifier's checks before its walk: what each of its numbers says of a program, cells and a map.
+pub data Early (program : List ℕ) (cells : ℕ) (depths : List ℕ) : ℕ → Type 0 where
+  long-program : 16384 < length program → Early program cells depths 20
+  many-cells : length program ≤ 16384 → 1024 < cells → Early program cells depths 22
+  unlike-map : length program ≤ 16384 → cells ≤ 1024 → length depths ≢ length program → Early program cells depths 23
+
+-- "refused by number, before a byte or a state changes", of the verifier: by 20, 22 or 23 exactly where it is the first to apply,
+-- with the map as it was.
+unfoldable pub RefusesEarly : Type 0
+RefusesEarly =
+    ((program : List ℕ) (cells : ℕ) (depths : List ℕ) (n : ℕ) → Early program cells depths n → verifyOf program cells depths ≡ (nameless n, depths))
+    × ((program : List ℕ) (cells : ℕ) (depths after : List ℕ) (n : ℕ) → verifyOf program cells depths ≡ (nameless n, after) → Early program cells depths n)
 
 -- Demand 2.
 
@@ -90,3 +113,81 @@ RefusesExactly =
 -- No two well-formed instructions have the same bytes.
 unfoldable pub BytesTellApart : Type 0
 BytesTellApart = (i j : Instruction) → wellFormed i ≡ true → wellFormed j ≡ true → encodedOf i ≡ encodedOf j → i ≡ j
+
+-- "Every well-formed .. rule pack is read": the pack of any rules that a pack can hold is read, and tells these rules.
+unfoldable pub PackIsRead : Type 0
+PackIsRead = (rs : List Rule) → Packable rs → (readOf (packed rs) ≡ given (contentsFor rs)) × (rulesOf (packed rs) (contentsFor rs) ≡ rs)
+
+-- ".. and written again gives the same bytes": what is read is well-formed, and the rules that it tells are written as the
+-- very bytes that they were read from, into any room that holds them.
+unfoldable pub PackIsWrittenAgain : Type 0
+PackIsWrittenAgain =
+    (s : List ℕ) (es : List Entry) (room : ℕ) → Bytes s → readOf s ≡ given es → length s ≤ room
+    → WellFormed s × (writeRules (rulesOf s es) room ≡ given s)
+
+-- "the reverse holds too": whatever the writer took is read back as it was, tags, cells, lengths and bodies; and it takes all
+-- rules that a pack can hold.
+unfoldable pub PackIsReadAgain : Type 0
+PackIsReadAgain =
+    ((tags cells lengths bodies : List ℕ) (room : ℕ) (bytes : List ℕ) → Words tags → writeOf tags cells lengths bodies room ≡ given bytes
+    → (es : List Entry) × (readOf bytes ≡ given es) × PartsOf tags cells lengths bodies (rulesOf bytes es))
+    × ((rs : List Rule) (room : ℕ) → Packable rs → length (packed rs) ≤ room → writeRules rs room ≡ given (packed rs))
+
+-- A pack is refused by a number of 01 exactly where that number is the first to apply.
+unfoldable pub PackRefusesExactly : Type 0
+PackRefusesExactly = ((s : List ℕ) (n : ℕ) → readOf s ≡ refused n → WhyPack s n) × ((s : List ℕ) (n : ℕ) → WhyPack s n → readOf s ≡ refused n)
+
+-- A found program is exactly the body of the rule with that tag, and a tag is found exactly where a rule has it.
+unfoldable pub FindsExactly : Type 0
+FindsExactly =
+    (s : List ℕ) (w : WellFormed s)
+    → ((r : Rule) → Among r (w .rules) → (e : Entry) × (findOf s (r .tag) ≡ given e) × (e .cells ≡ r .cells) × (bodyOf s e ≡ r .body))
+    × ((tag : ℕ) (e : Entry) → findOf s tag ≡ given e → (e .tag ≡ tag) × Among (ruleOf s e) (w .rules))
+    × ((tag : ℕ) → ((r : Rule) → Among r (w .rules) → r .tag ≡ tag → ⊥) → findOf s tag ≡ refused 36)
+
+-- Demand 3.
+
+-- "an admissible program for an allowed number of cells", and a map as long as the program: none of 20, 22 and 23 applies
+pub record Admissible (program : List ℕ) (cells : ℕ) (depths : List ℕ) : Type 0 where
+  pub size : length program ≤ 16384
+  pub few : cells ≤ 1024
+  pub alike : length depths ≡ length program
+
+-- the verifier accepts, and leaves this map
+abbrev pub Accepts : List ℕ → ℕ → List ℕ → List ℕ → Type 0
+Accepts program cells depths after = verifyOf program cells depths ≡ (good, after)
+
+-- "The verifier accepts .. exactly when no path of its jumps .. leads to a bad instruction, a call, a jump or function taken from
+-- the stack, an unknown function, the program's end, or too few or too many values, and no address is met at two depths" (`Clear`).
+unfoldable pub AcceptsExactly : Type 0
+AcceptsExactly =
+    ((program : List ℕ) (cells : ℕ) (depths after : List ℕ) → Accepts program cells depths after → Admissible program cells depths × Clear program cells)
+    × ((program : List ℕ) (cells : ℕ) (depths : List ℕ) → Admissible program cells depths → Clear program cells → (after : List ℕ) × Accepts program cells depths after)
+
+-- "Accepted: a cell holds the depth of its address if a path meets it, else 65,535" (`Mapped`).
+unfoldable pub WritesDepths : Type 0
+WritesDepths =
+    (program : List ℕ) (cells : ℕ) (depths after : List ℕ) → Accepts program cells depths after
+    → Mapped (lookOf program cells) (length program) after
+
+-- "each refusal by the walk has a path that shows it, 10 two" (`Shown`); "Refused by 1 to 10: every cell 65,535".
+unfoldable pub ShowsRefusals : Type 0
+ShowsRefusals =
+    (program : List ℕ) (cells : ℕ) (depths after : List ℕ) (n a : ℕ) → verifyOf program cells depths ≡ (names n a, after)
+    → Shown twoDepths (lookOf program cells) (length program) n a × (after ≡ replicate (length program) 65535)
+
+-- "Started fresh, with that many cells or more, any admissible data and any budget, an accepted program faults only on a data
+-- range or a copy's program range, and its depth is always the one the verifier wrote down for its address" (`Safe`).
+unfoldable pub RunsSafely : Type 0
+RunsSafely =
+    (program : List ℕ) (cells : ℕ) (depths after : List ℕ) → Accepts program cells depths after
+    → (budget count : ℕ) (mem cs : List ℕ) (m′ : Machine) → Allowed program (machine fresh mem cs) → cells ≤ length cs
+    → outcomeOf budget program (machine fresh mem cs) ≡ came m′ count → Safe after m′
+
+-- The verifier always answers: it accepts, or refuses before the walk, or in it.
+unfoldable pub Answers : Type 0
+Answers =
+    (program : List ℕ) (cells : ℕ) (depths : List ℕ)
+    → ((after : List ℕ) × Accepts program cells depths after)
+    ⊎ (((n : ℕ) × (verifyOf program cells depths ≡ (nameless n, depths)))
+    ⊎ ((n : ℕ) × (a : ℕ) × (verifyOf program cells depths ≡ (names n a, replicate (length program) 65535))))

@@ -3,3 +3,4 @@ pub mod Codes
 pub mod Answers
 pub mod Refuses
 pub mod Table
+pub mod Lengths

@@ -1,3 +1,4 @@
--- The laws of `verifier`.
-pub mod Foresees
-pub mod Safety
+-- What is proved of `verifier`.
+
+pub mod Loops
+pub mod Verdicts

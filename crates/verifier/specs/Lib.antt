@@ -1,4 +1,2 @@
 -- The definitions of `verifier`.
-pub mod Paths
-pub mod Look
-pub mod Sealed
+pub mod Verify

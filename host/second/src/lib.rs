@@ -6,6 +6,11 @@
 //! - [`numbers`]: the numbers and sizes of 01.
 //! - [`instruction`]: the decoder and the encoder of single instructions.
 //! - [`machine`]: the step and the run.
+//! - [`verifier`]: the walk and its depth map.
+//! - [`pack`]: rule packs, read and written.
+//! - [`listing`]: the listing.
+//! - [`reader`]: one instruction after the other.
+//! - [`report`]: what the program prints for a pack.
 //! - [`protocol`]: answers as lines of text.
 //! - [`cases`]: the cases on which the two implementations are compared.
 
@@ -14,7 +19,12 @@
 
 pub mod cases;
 pub mod instruction;
+pub mod listing;
 pub mod machine;
 pub mod numbers;
 pub mod opcodes;
+pub mod pack;
 pub mod protocol;
+pub mod reader;
+pub mod report;
+pub mod verifier;

@@ -246,7 +246,7 @@ impl Outcome {
 }
 
 /// How many values an instruction pushes.
-fn pushed(operation: Operation, instruction: &Instruction) -> usize {
+pub fn pushed(operation: Operation, instruction: &Instruction) -> usize {
     match operation {
         Operation::Halt
         | Operation::Discard

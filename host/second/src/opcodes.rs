@@ -8,7 +8,6 @@
 //! empty, and the extended opcodes that 01 leaves out, are not in the table:
 //! their first bytes are illegal.
 
-
 use Operation::*;
 
 /// One row of the table.

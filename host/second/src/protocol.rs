@@ -4,6 +4,8 @@
 
 use crate::instruction::Instruction;
 use crate::machine::{Answer, State, Status};
+use crate::pack::Entry;
+use crate::verifier::Verdict;
 
 /// Bytes as one field.
 pub fn bytes(bytes: &[u8]) -> String {
@@ -50,12 +52,17 @@ pub fn decode_answer(answer: &Result<(Instruction, usize), u32>) -> String {
     }
 }
 
-/// The answer of `encode`, with the room as it is afterwards.
-pub fn encode_answer(answer: &Result<usize, u32>, room: &[u8]) -> String {
-    let room = bytes(room);
+/// The answer of what writes into a room (`encode`, `listing`, `writepack`), with
+/// the room as it is afterwards.
+pub fn room_answer(answer: &Result<usize, u32>, room: &[u8]) -> String {
+    format!("{} {}", length_or_refusal(answer), bytes(room))
+}
+
+/// The same without the room.
+pub fn length_or_refusal(answer: &Result<usize, u32>) -> String {
     match answer {
-        Ok(length) => format!("ok {length} {room}"),
-        Err(number) => format!("refused {number} {room}"),
+        Ok(length) => format!("ok {length}"),
+        Err(number) => format!("refused {number}"),
     }
 }
 
@@ -69,11 +76,60 @@ pub fn run_answer(answer: &Answer, data: &[u8], stack: &[u16]) -> String {
     }
 }
 
+/// A verdict without its map: the address is `-` where the refusal names none.
+pub fn verdict(verdict: &Verdict) -> String {
+    match verdict {
+        Verdict::Accepted => "accepted".to_string(),
+        Verdict::Refused(number) => format!("refused {number} -"),
+        Verdict::RefusedAt(number, address) => format!("refused {number} {address}"),
+    }
+}
+
+/// The answer of `verify`, with the map as it is afterwards.
+pub fn verify_answer(answer: &Verdict, map: &[u16]) -> String {
+    format!("{} {}", verdict(answer), cells(map))
+}
+
+/// The answer of `pack`.
+pub fn pack_answer(answer: &Result<Vec<Entry>, u32>) -> String {
+    match answer {
+        Ok(entries) => {
+            let fields = entries.iter().map(|entry| {
+                let Entry {
+                    tag,
+                    cells,
+                    offset,
+                    length,
+                } = entry;
+                format!(" {tag} {cells} {offset} {length}")
+            });
+            format!("ok {}{}", entries.len(), fields.collect::<String>())
+        }
+        Err(number) => format!("refused {number}"),
+    }
+}
+
+/// The answer of `find`.
+pub fn find_answer(answer: &Result<(Entry, &[u8]), u32>) -> String {
+    match answer {
+        Ok((entry, _)) => format!("found {} {} {}", entry.cells, entry.offset, entry.length),
+        Err(number) => format!("refused {number}"),
+    }
+}
+
+/// The answer of `report`: each line feed as `|`.
+pub fn report_answer(report: &str) -> String {
+    or_none(report.replace('\n', "|"))
+}
+
 #[cfg(test)]
 mod tests {
     use super::*;
     use crate::instruction::{decode, encode};
     use crate::machine::{run, FRESH};
+    use crate::pack;
+    use crate::report::report;
+    use crate::verifier::verify;
 
     #[test]
     fn decode_lines() {
@@ -90,9 +146,9 @@ mod tests {
         let halt = Instruction::default();
         let mut room = [0xAB, 0xCD];
         let answer = encode(&halt, &mut room);
-        assert_eq!(encode_answer(&answer, &room), "ok 1 00cd");
+        assert_eq!(room_answer(&answer, &room), "ok 1 00cd");
         let answer = encode(&halt, &mut []);
-        assert_eq!(encode_answer(&answer, &[]), "refused 25 -");
+        assert_eq!(room_answer(&answer, &[]), "refused 25 -");
     }
 
     /// The protocol's own example, which is M1.
@@ -110,5 +166,29 @@ mod tests {
             run_answer(&answer, &[1], &stack),
             "refused 24 0 3 running 01 0003fffe"
         );
+    }
+
+    /// The protocol's own example, which is M2; then M3, and a map too long.
+    #[test]
+    fn verify_lines() {
+        let line = |cells, map: &mut [u16]| {
+            let answer = verify(&[0x85, 0x83, 0x15, 0x00], cells, map);
+            verify_answer(&answer, map)
+        };
+        assert_eq!(line(2, &mut [0; 4]), "accepted 0000000100020001");
+        assert_eq!(line(1, &mut [0; 4]), "refused 5 1 ffffffffffffffff");
+        assert_eq!(line(2, &mut [7; 5]), "refused 23 - 00070007000700070007");
+    }
+
+    /// The protocol's own examples of packs.
+    #[test]
+    fn pack_lines() {
+        let bytes = [1, 0, 7, 0, 2, 0, 0x0A, 0, 4, 0, 0x85, 0x83, 0x15, 0];
+        assert_eq!(pack_answer(&pack::entries(&bytes)), "ok 1 7 2 10 4");
+        assert_eq!(pack_answer(&pack::entries(&[])), "refused 30");
+        assert_eq!(find_answer(&pack::find(&bytes, 7)), "found 2 10 4");
+        assert_eq!(find_answer(&pack::find(&bytes, 8)), "refused 36");
+        assert_eq!(report_answer(&report(&bytes)), "0007 accepted|");
+        assert_eq!(report_answer(&report(&[0, 0])), "-");
     }
 }

@@ -10,7 +10,7 @@
 use super::{counts_and_flags, whole, Varied, Vectors, EDGES};
 use crate::instruction::{decode, encode, Instruction};
 use crate::numbers::PROGRAM_BYTES;
-use crate::protocol::{decode_answer, encode_answer};
+use crate::protocol::{decode_answer, room_answer};
 
 /// All cases, in order.
 pub fn vectors() -> Vectors {
@@ -54,7 +54,7 @@ fn add_encode(vectors: &mut Vectors, instruction: Instruction, room: usize) {
     case.extend((room.len() as u16).to_le_bytes());
     case.extend(&room);
     let answer = encode(&instruction, &mut room);
-    vectors.add(&case, &encode_answer(&answer, &room));
+    vectors.add(&case, &room_answer(&answer, &room));
 }
 
 /// Every first byte: whole, cut at every shorter length, with bytes behind, and

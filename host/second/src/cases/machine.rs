@@ -15,19 +15,18 @@
 //! A memory longer than what is given of it repeats that: of g given, place i
 //! holds the one given at i modulo g. Answered as `run`.
 
-mod assembler;
 mod case;
-mod programs;
 
-use super::{counts_and_flags, push_values, whole, Varied, Vectors, EDGES};
-use crate::machine::Status;
-use crate::numbers::{DATA_BYTES, PROGRAM_BYTES, STACK_CELLS};
-use assembler::assemble;
-use case::{case, Case, Lent, MOST};
-use programs::{
+use super::assembler::assemble;
+use super::lent::Lent;
+use super::programs::{
     AT_THE_END_OF_DATA, COUNT_DOWN, COUNT_DOWN_AGAIN, DIVISOR, M1, M4, M9, SUBROUTINE,
     SUM_OF_ITSELF,
 };
+use super::{good_pushes, whole, Varied, Vectors, EDGES};
+use crate::machine::Status;
+use crate::numbers::{DATA_BYTES, PROGRAM_BYTES, STACK_CELLS};
+use case::{case, Case, MOST};
 
 /// All cases, in order.
 pub fn vectors() -> Vectors {
@@ -58,11 +57,6 @@ pub fn vectors() -> Vectors {
 
 /// Operand bytes that are good places and shifts in most forms.
 const OPERANDS: [u8; 8] = [2, 0, 4, 1, 6, 0, 8, 2];
-
-/// The good first bytes of push-values.
-fn good_pushes() -> impl Iterator<Item = u8> {
-    counts_and_flags().map(|(count, flags)| push_values(count, flags))
-}
 
 /// An instruction with a one-byte or a two-byte number; none where the number
 /// does not fit.

@@ -2,8 +2,17 @@
 //! compact binary form, one after the other, with this implementation's answers
 //! as lines of text, one a case. The same call always makes the same cases.
 
+mod assembler;
+mod fields;
 pub mod isa;
+mod lent;
+pub mod listing;
 pub mod machine;
+pub mod pack;
+mod pieces;
+mod programs;
+pub mod reports;
+pub mod verify;
 
 use crate::instruction::decode;
 
@@ -27,6 +36,11 @@ impl Vectors {
     /// How many cases there are.
     pub fn cases(&self) -> usize {
         self.answers("")
+    }
+
+    /// How many answers are refusals.
+    pub fn refused(&self) -> usize {
+        self.answers("refused ")
     }
 
     /// How many answers begin with these words.
@@ -86,4 +100,9 @@ fn counts_and_flags() -> impl Iterator<Item = (u8, u8)> {
 /// The first byte of a push-values.
 fn push_values(count: u8, flags: u8) -> u8 {
     0xC0 | flags << 2 | (count - 1)
+}
+
+/// The good first bytes of push-values.
+fn good_pushes() -> impl Iterator<Item = u8> {
+    counts_and_flags().map(|(count, flags)| push_values(count, flags))
 }

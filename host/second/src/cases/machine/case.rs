@@ -1,36 +1,12 @@
 //! One case of the run, put together part by part.
 
+use crate::cases::lent::Lent;
 use crate::cases::Vectors;
 use crate::machine::{run, Answer, State, Status, FRESH};
 use crate::protocol::run_answer;
 
 /// The largest budget.
 pub const MOST: u32 = u32::MAX;
-
-/// A memory: what is given of it, repeated to its length.
-#[derive(Clone)]
-pub struct Lent<T> {
-    pub length: usize,
-    pub given: Vec<T>,
-}
-
-impl<T: Copy> Lent<T> {
-    pub fn whole(given: &[T]) -> Lent<T> {
-        Lent::repeated(given, given.len())
-    }
-
-    fn repeated(given: &[T], length: usize) -> Lent<T> {
-        Lent {
-            length,
-            given: given.to_vec(),
-        }
-    }
-
-    fn memory(&self) -> Vec<T> {
-        let repeated = self.given.iter().copied().cycle();
-        repeated.take(self.length).collect()
-    }
-}
 
 /// A case that is being put together.
 #[derive(Clone)]

@@ -1,0 +1,2 @@
+-- The statements of `distinct`.
+pub mod Listings

@@ -1,0 +1,83 @@
+-- `lines::operands::operands_length` meets its contract.
+-- Assumes nothing.
+use Prim.Native.Nat.{_/_}
+use native.Mathlib.Omega.{arith}
+use mathlib.Core.Path.{_≡_, ap, _∙_}
+use Rattle.forms.specs.Form.{formOf}
+use Rattle.forms.proofs.Widths.{value-width-le}
+use Rattle.lines.specs.Line.{shownIn}
+use Rattle.lines.proofs.Written.{shown-le, length-operands, length-shown}
+use borrow.Author.Needs.{needs}
+use Rattle.lines.proofs.operands.operands_length.Statement.{statement}
+use Rattle.lines.proofs.operands.operands_length.Tie as tie
+
+form-of-requires : tie.Need-form-of-requires
+form-of-requires c κs = search needs
+
+shown-in-requires : tie.Need-shown-in-requires
+shown-in-requires c κs = search needs
+
+operand-length-requires : tie.Need-operand-length-requires
+operand-length-requires c κs = omega (arith, shown-le (c .before .form-of .result))
+
+value-width-requires : tie.Need-value-width-requires
+value-width-requires c κs = search needs
+
+operand-length-requires-2 : tie.Need-operand-length-requires-2
+operand-length-requires-2 c κs = let i = c .before .before .before .before .args .i in omega (arith, value-width-le 0 (i .count) (i .flags))
+
+value-width-requires-2 : tie.Need-value-width-requires-2
+value-width-requires-2 c κs = search needs
+
+operand-length-requires-3 : tie.Need-operand-length-requires-3
+operand-length-requires-3 c κs = let i = c .before .before .before .before .before .before .args .i in omega (arith, value-width-le 1 (i .count) (i .flags / 2))
+
+value-width-requires-3 : tie.Need-value-width-requires-3
+value-width-requires-3 c κs = search needs
+
+operand-length-requires-4 : tie.Need-operand-length-requires-4
+operand-length-requires-4 c κs = let i = c .before .before .before .before .before .before .before .before .args .i in omega (arith, value-width-le 2 (i .count) (i .flags / 4))
+
+value-width-requires-4 : tie.Need-value-width-requires-4
+value-width-requires-4 c κs = search needs
+
+operand-length-requires-5 : tie.Need-operand-length-requires-5
+operand-length-requires-5 c κs = let i = c .before .before .before .before .before .before .before .before .before .before .args .i in omega (arith, value-width-le 3 (i .count) (i .flags / 8))
+
+add-result : tie.Need-add-result
+add-result c = search needs
+
+add-result-2 : tie.Need-add-result-2
+add-result-2 c = search needs
+
+add-result-3 : tie.Need-add-result-3
+add-result-3 c = search needs
+
+add-result-4 : tie.Need-add-result-4
+add-result-4 c = search needs
+
+returns : tie.Need-returns
+returns c = let i = c .before .before .before .before .before .before .before .before .before .before .before .args .i in
+    let e : c .before .before .before .before .before .before .before .before .before .shown-in .result ≡ shownIn (formOf (i .code)) = c .before .before .before .before .before .before .before .before .before .shown-in .ensures ∙ ap shownIn (c .before .before .before .before .before .before .before .before .before .before .form-of .ensures) in
+    (omega (arith, length-operands i, length-shown _ _ (i .number) e, length-shown _ _ (i .v0) (c .before .before .before .before .before .before .before .value-width .ensures), length-shown _ _ (i .v1) (c .before .before .before .before .before .value-width2 .ensures), length-shown _ _ (i .v2) (c .before .before .before .value-width3 .ensures), length-shown _ _ (i .v3) (c .before .value-width4 .ensures)), omega arith)
+
+pub operands-length-spec : {M : Type 1} → statement M
+operands-length-spec =
+    tie.close
+    (tie.spec
+    form-of-requires
+    shown-in-requires
+    operand-length-requires
+    value-width-requires
+    operand-length-requires-2
+    value-width-requires-2
+    operand-length-requires-3
+    value-width-requires-3
+    operand-length-requires-4
+    value-width-requires-4
+    operand-length-requires-5
+    add-result
+    add-result-2
+    add-result-3
+    add-result-4
+    returns)

@@ -1,0 +1,2 @@
+-- The definitions of `lines`.
+pub mod Line

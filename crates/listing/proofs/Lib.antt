@@ -1,0 +1,3 @@
+-- The laws of `listing`.
+pub mod Listings
+pub mod Answers

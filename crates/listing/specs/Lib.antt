@@ -1,0 +1,2 @@
+-- The definitions of `listing`.
+pub mod Listing

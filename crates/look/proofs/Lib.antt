@@ -1,0 +1,6 @@
+-- What is proved of `look`.
+pub mod Readings
+pub mod Shallow
+pub mod Wrongs
+pub mod Answers
+pub mod Rows

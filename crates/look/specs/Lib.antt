@@ -1,0 +1,3 @@
+-- The definitions of `look`.
+pub mod Look
+pub mod Wrong

@@ -1,0 +1,148 @@
+// What an instruction leads to at a depth, before it is run: a refusal, or its successors.
+ghost use mathlib.Core.Path.{_≡_};
+ghost use mathlib.Core.Bool.{true};
+ghost use Prim.Native.Nat.{_<_, _≤_};
+ghost use lib.ListN.{length};
+ghost use Rattle.isa.specs.Shape.{stackAnswer};
+ghost use Rattle.look.specs.Look.{isNine, along, onWay, lookOf, outcomeIn, GoesOn};
+ghost use Rattle.shapes.specs.Shapes.{shapeRows};
+use isa::Decoded;
+use isa::Stack;
+use isa::Way;
+
+// A refusal's number; no successor; one, with the depth there; or the next instruction and a target, with their depth.
+pub enum Look {
+    Bad(usize),
+    Nowhere,
+    One(usize, usize),
+    Two(usize, usize, usize),
+}
+
+// The codes that the verifier refuses whatever the depth.
+fn is_nine(way: Way) -> bool
+    ensures { λ r. ⌜ r ≡ isNine way ⌝ }
+{
+    match way {
+        Way::Stop => false,
+        Way::Next => false,
+        Way::Jump(_) => false,
+        Way::Branch(_, _) => false,
+        Way::Call(_) => true,
+        Way::Taken(_) => true,
+        Way::System(_) => false,
+        Way::Extension(_) => false,
+    }
+}
+
+// Where a way leads at the depth after its instruction.
+fn along_way(next: usize, depth: usize, way: Way) -> Look
+    ensures { λ r. ⌜ outcomeIn r ≡ along next depth way ⌝ }
+{
+    match way {
+        Way::Stop => Look::Nowhere,
+        Way::Next => Look::One(next, depth),
+        Way::Jump(x) => Look::One(x as usize, depth),
+        Way::Branch(_, x) => Look::Two(next, x as usize, depth),
+        Way::Call(_) => Look::Bad(9),
+        Way::Taken(_) => Look::Bad(9),
+        Way::System(x) => {
+            if x != 0 {
+                return Look::Bad(8);
+            }
+            Look::Nowhere
+        }
+        Way::Extension(_) => Look::Bad(8),
+    }
+}
+
+// Where a way leads, the stack check's answer at hand.
+fn on_way(next: usize, way: Way, after: Stack) -> Look
+    ensures { λ r. ⌜ outcomeIn r ≡ onWay next way (stackAnswer after) ⌝ }
+{
+    if is_nine(way) {
+        return Look::Bad(9);
+    }
+    match after {
+        Stack::Depth(depth) => along_way(next, depth, way),
+        Stack::Refused(number) => Look::Bad(number),
+    }
+}
+
+// What the instruction at an address leads to, as the decoder reads it.
+fn look_read(program: &[u8], cells: usize, at: usize, depth: usize) -> Look
+    ensures { λ r. ⌜ outcomeIn r ≡ lookOf (now (program .entry)) cells at depth ⌝ }
+{
+    match isa::decode(program, at) {
+        Decoded::Read(read, length) => {
+            let code = read.code;
+            let way = isa::way_of(code, read.number);
+            let taken = isa::taken_of(code);
+            let pushed = isa::pushed_of(code, read.count);
+            on_way(
+                at + length,
+                way,
+                isa::depth_after(cells, depth, taken, pushed),
+            )
+        }
+        Decoded::Refused(number) => Look::Bad(number),
+    }
+}
+
+// A first byte after which the next instruction always follows, and whose operands may hold anything.
+fn goes_on(first: u8) -> bool
+    ensures { λ r. ⌜ (r ≡ true → GoesOn first) ⌝ }
+{
+    if first >= 0x5B {
+        return true;
+    }
+    if first >= 0x55 {
+        return false;
+    }
+    if first >= 0x41 {
+        return true;
+    }
+    if first >= 0x3B {
+        return false;
+    }
+    if first >= 0x33 {
+        return true;
+    }
+    if first >= 0x31 {
+        return false;
+    }
+    if first >= 0x0B {
+        return true;
+    }
+    if first >= 0x05 {
+        return false;
+    }
+    if first >= 0x01 {
+        return true;
+    }
+    false
+}
+
+// What the instruction at an address leads to from a depth, with so many cells; the rows are the table of shapes.
+pub fn look_at(rows: &[u8], program: &[u8], cells: usize, at: usize, depth: usize) -> Look
+    requires { ⌜ (now rows ≡ shapeRows) × (at < length (now program)) × (length (now program) ≤ 16384) ⌝ }
+    ensures { λ r. ⌜ outcomeIn r ≡ lookOf (now (program .entry)) cells at depth ⌝ }
+{
+    let first = program[at];
+    if !goes_on(first) {
+        return look_read(program, cells, at, depth);
+    }
+    let row = first as usize * 3;
+    let length = rows[row] as usize;
+    if length == 0 {
+        return Look::Bad(2);
+    }
+    if program.len() - at < length {
+        return Look::Bad(3);
+    }
+    let taken = rows[row + 1] as usize;
+    let pushed = rows[row + 2] as usize;
+    match isa::depth_after(cells, depth, taken, pushed) {
+        Stack::Depth(after) => Look::One(at + length, after),
+        Stack::Refused(number) => Look::Bad(number),
+    }
+}

@@ -1,0 +1,3 @@
+-- The definitions of `names`.
+pub mod Names
+pub mod Rows

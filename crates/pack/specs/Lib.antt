@@ -1,0 +1,5 @@
+-- The definitions of `pack`.
+pub mod Contents
+pub mod Read
+pub mod Find
+pub mod Format

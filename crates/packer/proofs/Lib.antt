@@ -1,0 +1,4 @@
+-- The laws of `packer`.
+pub mod Lists
+pub mod Puts
+pub mod Writes

@@ -1,0 +1,2 @@
+-- The definitions of `packer`.
+pub mod Write

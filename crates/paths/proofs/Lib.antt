@@ -1,0 +1,4 @@
+-- What is proved of the paths and the walk.
+
+pub mod Marks
+pub mod Walks

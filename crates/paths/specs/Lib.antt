@@ -1,0 +1,3 @@
+-- The definitions of `paths`.
+pub mod Paths
+pub mod Walk

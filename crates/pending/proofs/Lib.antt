@@ -1,0 +1,3 @@
+-- What is proved of `pending`.
+pub mod Digits
+pub mod Words

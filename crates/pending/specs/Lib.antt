@@ -1,0 +1,2 @@
+-- The definitions of `pending`.
+pub mod Sets

@@ -1,0 +1,2 @@
+-- The laws of `reader`.
+pub mod Turns

@@ -1,0 +1,2 @@
+-- The definitions of `report`.
+pub mod Report

@@ -1,0 +1,3 @@
+-- What is proved of `safety`.
+pub mod Foresees
+pub mod Safety

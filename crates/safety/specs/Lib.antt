@@ -1,0 +1,2 @@
+-- The definitions of `safety`.
+pub mod Sealed

@@ -1,0 +1,2 @@
+-- What is proved of `shapes`.
+pub mod Looks

@@ -1,0 +1,2 @@
+-- The definitions of `shapes`.
+pub mod Shapes

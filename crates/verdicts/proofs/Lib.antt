@@ -1,0 +1,3 @@
+-- The laws of `verdicts`.
+
+pub mod Lines

@@ -1,0 +1,2 @@
+-- The definitions of `verdicts`.
+pub mod Line
