@@ -1,7 +1,8 @@
 -- The laws of `report`.
-
 pub mod Entries
-pub mod Answers
 pub mod Reports
 pub mod Writes
+pub mod Answers
+pub mod Addresses
+pub mod Numbers
 pub mod Sample
