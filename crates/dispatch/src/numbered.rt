@@ -71,7 +71,7 @@ pub fn load_number_byte(
         return Move::Fault(3, 0);
     }
     let x = byte_after(program, address);
-    memory::load_number(width, x, address + 2, depth, data, cells)
+    loads::load_number(width, x, address + 2, depth, data, cells)
 }
 
 // A load at the number.
@@ -90,7 +90,7 @@ pub fn load_number_word(
         return Move::Fault(3, 0);
     }
     let x = word_after(program, address);
-    memory::load_number(width, x, address + 3, depth, data, cells)
+    loads::load_number(width, x, address + 3, depth, data, cells)
 }
 
 // A load at a and the number.
@@ -109,7 +109,7 @@ pub fn load_offset_byte(
         return Move::Fault(3, 0);
     }
     let x = byte_after(program, address);
-    memory::load_offset(width, x, address + 2, depth, data, cells)
+    loads::load_offset(width, x, address + 2, depth, data, cells)
 }
 
 // A load at a and the number.
@@ -128,7 +128,7 @@ pub fn load_offset_word(
         return Move::Fault(3, 0);
     }
     let x = word_after(program, address);
-    memory::load_offset(width, x, address + 3, depth, data, cells)
+    loads::load_offset(width, x, address + 3, depth, data, cells)
 }
 
 // A store at the number.
@@ -147,7 +147,7 @@ pub fn store_number_byte(
         return Move::Fault(3, 0);
     }
     let x = byte_after(program, address);
-    memory::store_number(width, x, address + 2, depth, data, cells)
+    stores::store_number(width, x, address + 2, depth, data, cells)
 }
 
 // A store at the number.
@@ -166,7 +166,7 @@ pub fn store_number_word(
         return Move::Fault(3, 0);
     }
     let x = word_after(program, address);
-    memory::store_number(width, x, address + 3, depth, data, cells)
+    stores::store_number(width, x, address + 3, depth, data, cells)
 }
 
 // A store at a and the number.
@@ -185,7 +185,7 @@ pub fn store_offset_byte(
         return Move::Fault(3, 0);
     }
     let x = byte_after(program, address);
-    memory::store_offset(width, x, address + 2, depth, data, cells)
+    stores::store_offset(width, x, address + 2, depth, data, cells)
 }
 
 // A store at a and the number.
@@ -204,7 +204,7 @@ pub fn store_offset_word(
         return Move::Fault(3, 0);
     }
     let x = word_after(program, address);
-    memory::store_offset(width, x, address + 3, depth, data, cells)
+    stores::store_offset(width, x, address + 3, depth, data, cells)
 }
 
 // A call of the number.
@@ -216,7 +216,7 @@ pub fn call_byte(program: &[u8], address: usize, depth: usize, cells: &mut [u16]
         return Move::Fault(3, 0);
     }
     let x = byte_after(program, address);
-    flow::call_to(x, address + 2, depth, cells)
+    calls::call_to(x, address + 2, depth, cells)
 }
 
 // A call of the number.
@@ -228,7 +228,7 @@ pub fn call_word(program: &[u8], address: usize, depth: usize, cells: &mut [u16]
         return Move::Fault(3, 0);
     }
     let x = word_after(program, address);
-    flow::call_to(x, address + 3, depth, cells)
+    calls::call_to(x, address + 3, depth, cells)
 }
 
 // A jump to the number.
@@ -288,7 +288,7 @@ pub fn system_byte(program: &[u8], address: usize, depth: usize, cells: &[u16]) 
         return Move::Fault(3, 0);
     }
     let x = byte_after(program, address);
-    flow::system_of(x, depth)
+    calls::system_of(x, depth)
 }
 
 // The system function of the number.
@@ -300,7 +300,7 @@ pub fn system_word(program: &[u8], address: usize, depth: usize, cells: &[u16]) 
         return Move::Fault(3, 0);
     }
     let x = word_after(program, address);
-    flow::system_of(x, depth)
+    calls::system_of(x, depth)
 }
 
 // The extension function of the number.
@@ -311,7 +311,7 @@ pub fn extension_byte(program: &[u8], address: usize, depth: usize, cells: &[u16
     if program.len() < address + 2 {
         return Move::Fault(3, 0);
     }
-    flow::extension_of(depth)
+    calls::extension_of(depth)
 }
 
 // The extension function of the number.
@@ -322,7 +322,7 @@ pub fn extension_word(program: &[u8], address: usize, depth: usize, cells: &[u16
     if program.len() < address + 3 {
         return Move::Fault(3, 0);
     }
-    flow::extension_of(depth)
+    calls::extension_of(depth)
 }
 
 // A shift of a by the number, which is 0 to 15.

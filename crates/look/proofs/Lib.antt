@@ -4,3 +4,4 @@ pub mod Shallow
 pub mod Wrongs
 pub mod Answers
 pub mod Rows
+pub mod Turns

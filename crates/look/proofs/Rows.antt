@@ -10,7 +10,7 @@ use lib.Dec.{ltb}
 use lib.ListN.{length, getD}
 use borrow.Author.Tests.{ltb-true}
 use Rattle.basis.specs.Pick.{pick, both}
-use Rattle.basis.specs.Answer.{Answer, given, refused}
+use Rattle.basis.specs.Answer.{Answer}
 use Rattle.basis.specs.Number.{Bytes}
 use Rattle.basis.proofs.Tests.{both-left, both-right, false-true}
 use Rattle.basis.proofs.Tables.{span, inside}
@@ -18,19 +18,18 @@ use Rattle.forms.specs.Form.{formOf, codeOf, lengthOf}
 use Rattle.forms.specs.declared.Form.{Form}
 use Rattle.forms.specs.declared.Form.the-variants.{Plain, Byte, Shift, Word, Short, Values, Illegal}
 use Rattle.isa.specs.Shape.{takenIn, pushedIn, wayIn, depthAfter}
-use Rattle.isa.specs.Decode.{Reading, decodeOf}
-use Rattle.isa.specs.Refusals.{Inside, Why, over-size, past-end, illegal-first, cut, illegal-shift}
+use Rattle.isa.specs.Refusals.{illegal-first}
 use Rattle.isa.proofs.Codes.{leading, others}
-use Rattle.isa.proofs.Refuses.{refusal-why, why-refusal}
+use Rattle.isa.proofs.Refuses.{why-refusal}
 use Rattle.shapes.specs.Shapes.{shapeRows}
 use Rattle.shapes.proofs.Looks.{length-row, taken-row, pushed-row}
 use Rattle.paths.specs.Paths.{bad}
 use Rattle.look.specs.Look.{onDepth, lookOf, GoesOn}
-use Rattle.look.proofs.Readings.{look-refused, read-led, read-shape}
+use Rattle.look.proofs.Readings.{look-refused, read-led, read-shape, within, look-cut, read-whole}
 use Rattle.isa.specs.declared.Way.the-variants.{Next}
 
 -- the codes of a run of first bytes, tested one by one
-abbrev notShift : Form → Bool
+abbrev pub notShift : Form → Bool
 notShift Plain = true
 notShift Byte = true
 notShift Shift = false
@@ -46,7 +45,7 @@ not-leading : (t : Bool) → pick t false true ≡ true → t ≡ false
 not-leading true e = absurd (false-true e)
 not-leading false e = refl
 
-not-shift : (f : Form) → notShift f ≡ true → f ≢ Shift
+pub not-shift : (f : Form) → notShift f ≡ true → f ≢ Shift
 not-shift f e q = false-true (sym (ap notShift q) ∙ e)
 
 goes-on : (b : ℕ) → onward b ≡ true → GoesOn b
@@ -84,32 +83,14 @@ from-01 = refl
 
 -- an address inside an admissible program, and the table
 module _ (program : List ℕ) (cells at depth : ℕ) (bytes : Bytes program) (i : at < length program) (s : length program ≤ 16384) (rows : List ℕ) (e : rows ≡ shapeRows) where
-  within : Inside program at (getD program at 0)
-  within = record { size = s; inside = i; byte = refl }
-
   told : getD rows (getD program at 0 * 3) 0 ≡ lengthOf (getD program at 0)
   told = ap (λ (z : List ℕ). getD z (getD program at 0 * 3) 0) e ∙ length-row (getD program at 0) (bytes at)
 
   pub row-illegal : getD rows (getD program at 0 * 3) 0 ≡ 0 → bad 2 ≡ lookOf program cells at depth
-  row-illegal z = look-refused program cells at depth 2 (why-refusal program at 2 (illegal-first within (sym told ∙ z)))
+  row-illegal z = look-refused program cells at depth 2 (why-refusal program at 2 (illegal-first (within program at i s) (sym told ∙ z)))
 
   pub row-cut : getD rows (getD program at 0 * 3) 0 ≢ 0 → length program - at < getD rows (getD program at 0 * 3) 0 → bad 3 ≡ lookOf program cells at depth
-  row-cut n h = look-refused program cells at depth 3 (why-refusal program at 3 (cut within (let l = told in omega arith) (let l = told in omega arith)))
-
-  -- what fits and is no shift is read
-  read : formOf (codeOf (getD program at 0)) ≢ Shift → lengthOf (getD program at 0) ≢ 0 → lengthOf (getD program at 0) ≤ length program - at → (r : Reading) × (decodeOf program at ≡ given r)
-  read f n h = by (decodeOf program at) refl
-    where
-      never : (k : ℕ) → Why program at k → ⊥
-      never k (over-size l) = omega arith
-      never k (past-end l m) = omega arith
-      never k (illegal-first w z) = n (ap lengthOf (w .byte) ∙ z)
-      never k (cut {b = b} w p l) = let z : lengthOf (getD program at 0) ≡ lengthOf b = ap lengthOf (w .byte) in omega arith
-      never k (illegal-shift w z l m) = f (ap (λ (b : ℕ). formOf (codeOf b)) (w .byte) ∙ z)
-
-      by : (a : Answer Reading) → decodeOf program at ≡ a → (r : Reading) × (decodeOf program at ≡ given r)
-      by (given r) q = (r, q)
-      by (refused k) q = absurd (never k (refusal-why program at k bytes q))
+  row-cut n h = look-cut program at i s cells depth (λ z. n (told ∙ z)) (let l = told in omega arith)
 
   pub row-led :
       GoesOn (getD program at 0) → getD rows (getD program at 0 * 3) 0 ≢ 0 → getD rows (getD program at 0 * 3) 0 ≤ length program - at
@@ -118,7 +99,7 @@ module _ (program : List ℕ) (cells at depth : ℕ) (bytes : Bytes program) (i 
   row-led g n h after q =
       let b : ℕ = getD program at 0 in
       let m : lengthOf b ≢ 0 = λ z. n (told ∙ z) in
-      let r = read (g .free) m (let l = told in omega arith) in
+      let r = read-whole program at i s bytes (g .free) m (let l = told in omega arith) in
       let p = read-shape program at (r .0) (r .1) in
       ap (λ (k : ℕ). onDepth (at + k) Next after) (told ∙ sym (p .0))
       ∙ read-led program cells at depth (r .0) Next (getD rows (b * 3 + 1) 0) (getD rows (b * 3 + 2) 0) after (r .1)

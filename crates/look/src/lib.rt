@@ -1,10 +1,12 @@
 // What an instruction leads to at a depth, before it is run: a refusal, or its successors.
 ghost use mathlib.Core.Path.{_≡_};
 ghost use mathlib.Core.Bool.{true};
-ghost use Prim.Native.Nat.{_<_, _≤_};
+ghost use Prim.Native.Nat.{ℕ, _<_, _≤_};
 ghost use lib.ListN.{length};
+ghost use Rattle.isa.specs.Op.{Halt, Given};
+ghost use Rattle.isa.specs.declared.Route.the-variants.{Jump, JumpIf, JumpIfNot};
 ghost use Rattle.isa.specs.Shape.{stackAnswer};
-ghost use Rattle.look.specs.Look.{isNine, along, onWay, lookOf, outcomeIn, GoesOn};
+ghost use Rattle.look.specs.Look.{isNine, along, onWay, lookAt, lookNumbered, lookOf, outcomeIn, GoesOn};
 ghost use Rattle.shapes.specs.Shapes.{shapeRows};
 use isa::Decoded;
 use isa::Stack;
@@ -122,6 +124,64 @@ fn goes_on(first: u8) -> bool
     false
 }
 
+// The machine halts.
+fn halted(cells: usize, depth: usize) -> Look
+    ensures { λ r. ⌜ ((next : ℕ) → outcomeIn r ≡ lookAt cells next depth Halt) ⌝ }
+{
+    match isa::depth_after(cells, depth, 0, 0) {
+        Stack::Depth(_) => Look::Nowhere,
+        Stack::Refused(number) => Look::Bad(number),
+    }
+}
+
+// A jump to the number of `width` bytes in the code.
+fn jumped(width: usize, program: &[u8], cells: usize, at: usize, depth: usize) -> Look
+    requires { ⌜ (width ≤ 2) × (at < length (now program)) ⌝ }
+    ensures { λ r. ⌜ outcomeIn r ≡ lookNumbered (now (program .entry)) cells at depth width (Given Jump) ⌝ }
+{
+    if program.len() - at < 1 + width {
+        return Look::Bad(3);
+    }
+    let target = basis::number_at(width, program, at + 1) as usize;
+    match isa::depth_after(cells, depth, 0, 0) {
+        Stack::Depth(after) => Look::One(target, after),
+        Stack::Refused(number) => Look::Bad(number),
+    }
+}
+
+// A branch to the number of `width` bytes in the code: both ways are possible, whatever the condition.
+fn branched(width: usize, program: &[u8], cells: usize, at: usize, depth: usize) -> Look
+    requires { ⌜ (width ≤ 2) × (at < length (now program)) ⌝ }
+    ensures { λ r. ⌜ outcomeIn r ≡ lookNumbered (now (program .entry)) cells at depth width (Given JumpIf) ⌝ }
+    ensures { λ r. ⌜ outcomeIn r ≡ lookNumbered (now (program .entry)) cells at depth width (Given JumpIfNot) ⌝ }
+{
+    if program.len() - at < 1 + width {
+        return Look::Bad(3);
+    }
+    let target = basis::number_at(width, program, at + 1) as usize;
+    match isa::depth_after(cells, depth, 1, 0) {
+        Stack::Depth(after) => Look::Two(at + 1 + width, target, after),
+        Stack::Refused(number) => Look::Bad(number),
+    }
+}
+
+// What the instruction at an address leads to: a halt, a jump or a branch by its first byte, any other as the decoder reads it.
+fn look_turn(program: &[u8], cells: usize, at: usize, depth: usize) -> Look
+    requires { ⌜ (at < length (now program)) × (length (now program) ≤ 16384) ⌝ }
+    ensures { λ r. ⌜ outcomeIn r ≡ lookOf (now (program .entry)) cells at depth ⌝ }
+{
+    match program[at] {
+        0x00 => halted(cells, depth),
+        0x3C => jumped(1, program, cells, at, depth),
+        0x3D => branched(1, program, cells, at, depth),
+        0x3E => branched(1, program, cells, at, depth),
+        0x56 => jumped(2, program, cells, at, depth),
+        0x57 => branched(2, program, cells, at, depth),
+        0x58 => branched(2, program, cells, at, depth),
+        _ => look_read(program, cells, at, depth),
+    }
+}
+
 // What the instruction at an address leads to from a depth, with so many cells; the rows are the table of shapes.
 pub fn look_at(rows: &[u8], program: &[u8], cells: usize, at: usize, depth: usize) -> Look
     requires { ⌜ (now rows ≡ shapeRows) × (at < length (now program)) × (length (now program) ≤ 16384) ⌝ }
@@ -129,7 +189,7 @@ pub fn look_at(rows: &[u8], program: &[u8], cells: usize, at: usize, depth: usiz
 {
     let first = program[at];
     if !goes_on(first) {
-        return look_read(program, cells, at, depth);
+        return look_turn(program, cells, at, depth);
     }
     let row = first as usize * 3;
     let length = rows[row] as usize;

@@ -1,21 +1,11 @@
-// Loads and stores: each takes its operands, checks 4, 5 and 6, reads or writes the data and pushes one value.
+// What all accesses to the data share: the exact sum of an address, and the push of the one value that each leaves.
 ghost use mathlib.Core.Path.{_≡_};
 ghost use mathlib.Core.List.{[], _∷_};
 ghost use Prim.Native.Nat.{_+_, _<_};
 ghost use lib.ListN.{length};
 ghost use Rattle.effects.specs.Memory.{pushed};
 ghost use Rattle.effects.specs.declared.Move.the-variants.{To};
-
-mod loads;
-mod stores;
-
 use effects::Move;
-pub use loads::load_number;
-pub use loads::load_offset;
-pub use loads::load_sum;
-pub use stores::store_number;
-pub use stores::store_offset;
-pub use stores::store_sum;
 
 // a + b: "Address sums are exact whole numbers."
 pub fn sum(a: u16, b: u16) -> usize

@@ -1,4 +1,4 @@
--- `look::look_at` meets its contract: the row, where the next instruction simply follows; else what the decoder reads.
+-- `look::look_at` meets its contract: the row, where the next instruction simply follows; else what `look_turn` answers.
 -- Assumes nothing.
 use Rattle.isa.specs.Shape.{stackAnswer}
 use native.Mathlib.Omega.{arith}
@@ -18,8 +18,8 @@ shared-slice-read-first c = search needs
 goes-on-requires : tie.Need-goes-on-requires
 goes-on-requires c κs = search needs
 
-look-read-requires : tie.Need-look-read-requires
-look-read-requires c κs = search needs
+look-turn-requires : tie.Need-look-turn-requires
+look-turn-requires c κs = search needs
 
 returns : tie.Need-returns
 returns c = search needs
@@ -87,7 +87,7 @@ look-at-spec =
     (tie.spec
     shared-slice-read-first
     goes-on-requires
-    look-read-requires
+    look-turn-requires
     returns
     cast-row
     mul-row

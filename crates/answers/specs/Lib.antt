@@ -1,0 +1,6 @@
+-- The definitions of `answers`.
+pub mod Written
+pub mod Instructions
+pub mod Runs
+pub mod Verdicts
+pub mod Packs

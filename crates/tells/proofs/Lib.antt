@@ -1,0 +1,4 @@
+-- The laws of `tells`.
+pub mod Tells
+pub mod States
+pub mod Judges

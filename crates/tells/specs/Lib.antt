@@ -1,0 +1,2 @@
+-- The definitions of `tells`.
+pub mod Told

@@ -1,0 +1,1 @@
+// What the numbers of the C face tell: statements in specs/, their proofs in proofs/, and no code.

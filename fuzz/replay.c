@@ -1,0 +1,121 @@
+/*
+ * The target without libFuzzer: `replay COUNT FILE..` tries each file, then COUNT altered ones, the same on every machine. An
+ * input that ends the program is left in the file `broken`.
+ */
+#include "face.h"
+
+#include <stdbool.h>
+#include <stdio.h>
+#include <stdlib.h>
+#include <string.h>
+
+enum { FILES_MAX = 64, LENGTH_MAX = 1024 };
+
+typedef struct seed {
+    size_t length;
+    uint8_t bytes[LENGTH_MAX];
+} seed;
+
+static seed seeds[FILES_MAX];
+static seed in_hand;
+static bool trying;
+
+static size_t random_below(size_t limit)
+{
+    static uint64_t state = 0x9E3779B97F4A7C15u;
+    state ^= state << 13;
+    state ^= state >> 7;
+    state ^= state << 17;
+    return (size_t)(state >> 11) % limit;
+}
+
+static void leave_broken(void)
+{
+    FILE *file = trying ? fopen("broken", "wb") : NULL;
+    if (file == NULL)
+        return;
+    fwrite(in_hand.bytes, 1, in_hand.length, file);
+    fclose(file);
+}
+
+static void try(void)
+{
+    trying = true;
+    LLVMFuzzerTestOneInput(in_hand.bytes, in_hand.length);
+    trying = false;
+}
+
+static bool load(seed *one, const char *name)
+{
+    FILE *file = fopen(name, "rb");
+    if (file == NULL) {
+        perror(name);
+        return false;
+    }
+    one->length = fread(one->bytes, 1, LENGTH_MAX, file);
+    return fclose(file) == 0;
+}
+
+static void insert(size_t at)
+{
+    if (in_hand.length == LENGTH_MAX)
+        return;
+    memmove(in_hand.bytes + at + 1, in_hand.bytes + at, in_hand.length - at);
+    in_hand.bytes[at] = (uint8_t)random_below(256);
+    in_hand.length++;
+}
+
+static void cut(size_t at)
+{
+    memmove(in_hand.bytes + at, in_hand.bytes + at + 1, in_hand.length - at - 1);
+    in_hand.length--;
+}
+
+/* From a place on, another seed's bytes. */
+static void splice(size_t at, const seed *other)
+{
+    if (other->length <= at)
+        return;
+    memcpy(in_hand.bytes + at, other->bytes + at, other->length - at);
+    in_hand.length = other->length;
+}
+
+static void alter(size_t count)
+{
+    size_t at = random_below(in_hand.length + 1);
+    size_t way = random_below(8);
+    if (at == in_hand.length || way == 0)
+        insert(at);
+    else if (way == 1)
+        cut(at);
+    else if (way == 2)
+        splice(at, &seeds[random_below(count)]);
+    else
+        in_hand.bytes[at] = (uint8_t)random_below(256);
+}
+
+int main(int argc, char **argv)
+{
+    size_t count = argc < 3 ? 0 : (size_t)(argc - 2);
+    size_t altered = argc < 3 ? 0 : strtoul(argv[1], NULL, 10);
+    if (count == 0 || count > FILES_MAX) {
+        fprintf(stderr, "usage: replay COUNT FILE.. (at most %d files)\n", FILES_MAX);
+        return 2;
+    }
+    LLVMFuzzerInitialize(&argc, &argv);
+    atexit(leave_broken);
+    for (size_t i = 0; i < count; i++) {
+        if (!load(&seeds[i], argv[i + 2]))
+            return 2;
+        in_hand = seeds[i];
+        try();
+    }
+    for (size_t i = 0; i < altered; i++) {
+        in_hand = seeds[random_below(count)];
+        for (size_t edits = 1 + random_below(6); edits > 0; edits--)
+            alter(count);
+        try();
+    }
+    printf("%zu seeds and %zu altered: no promise broken\n", count, altered);
+    return 0;
+}

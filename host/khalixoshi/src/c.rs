@@ -1,0 +1,222 @@
+//! The functions of libkhalixoshi.a as include/khalixoshi.h has them, each behind a
+//! function over slices. All unsafe code of this crate is here. What the header asks
+//! of a caller holds in each call: a pointer and its count come from one slice, and
+//! what may be written is lent by `&mut`, so it overlaps nothing else.
+
+pub const RUNNING: usize = 0;
+pub const HALTED: usize = 1;
+pub const FAULTED: usize = 2;
+
+#[repr(C)]
+#[derive(Clone, Copy)]
+pub struct Instruction {
+    pub code: u8,
+    pub count: u8,
+    pub flags: u8,
+    pub number: u16,
+    pub v0: u16,
+    pub v1: u16,
+    pub v2: u16,
+    pub v3: u16,
+}
+
+#[repr(C)]
+pub struct Decoded {
+    pub refusal: usize,
+    pub length: usize,
+    pub instruction: Instruction,
+}
+
+#[repr(C)]
+pub struct Written {
+    pub refusal: usize,
+    pub length: usize,
+}
+
+#[repr(C)]
+#[derive(Clone, Copy)]
+pub struct State {
+    pub address: usize,
+    pub depth: usize,
+    pub status: usize,
+    pub fault: usize,
+}
+
+#[repr(C)]
+pub struct Ran {
+    pub refusal: usize,
+    pub steps: u32,
+    pub state: State,
+}
+
+#[repr(C)]
+pub struct Verdict {
+    pub refusal: usize,
+    pub at: usize,
+}
+
+#[repr(C)]
+pub struct Checked {
+    pub refusal: usize,
+    pub entries: usize,
+}
+
+#[repr(C)]
+pub struct Entry {
+    pub refusal: usize,
+    pub present: usize,
+    pub tag: u16,
+    pub cells: u16,
+    pub offset: u16,
+    pub length: u16,
+}
+
+extern "C" {
+    fn khx_decode(program: *const u8, program_length: usize, at: usize) -> Decoded;
+    fn khx_read(program: *const u8, program_length: usize, at: *mut usize) -> Decoded;
+    fn khx_encode(instruction: Instruction, room: *mut u8, room_length: usize) -> Written;
+    fn khx_run(
+        state: State,
+        program: *const u8,
+        program_length: usize,
+        data: *mut u8,
+        data_length: usize,
+        cells: *mut u16,
+        cells_length: usize,
+        budget: u32,
+    ) -> Ran;
+    fn khx_verify(
+        program: *const u8,
+        program_length: usize,
+        cells: usize,
+        map: *mut u16,
+        map_length: usize,
+    ) -> Verdict;
+    fn khx_list(
+        program: *const u8,
+        program_length: usize,
+        room: *mut u8,
+        room_length: usize,
+    ) -> Written;
+    fn khx_pack_check(pack: *const u8, pack_length: usize) -> Checked;
+    fn khx_pack_entry(pack: *const u8, pack_length: usize, index: usize) -> Entry;
+    fn khx_pack_find(pack: *const u8, pack_length: usize, tag: u16) -> Entry;
+    fn khx_pack_write(
+        tags: *const u16,
+        tags_count: usize,
+        cells: *const u16,
+        cells_count: usize,
+        lengths: *const u16,
+        lengths_count: usize,
+        bodies: *const u8,
+        bodies_length: usize,
+        room: *mut u8,
+        room_length: usize,
+    ) -> Written;
+    fn khx_report(
+        pack: *const u8,
+        pack_length: usize,
+        map: *mut u16,
+        map_length: usize,
+        room: *mut u8,
+        room_length: usize,
+    ) -> Written;
+}
+
+pub fn decode(program: &[u8], at: usize) -> Decoded {
+    unsafe { khx_decode(program.as_ptr(), program.len(), at) }
+}
+
+pub fn read(program: &[u8], at: &mut usize) -> Decoded {
+    unsafe { khx_read(program.as_ptr(), program.len(), at) }
+}
+
+pub fn encode(instruction: Instruction, room: &mut [u8]) -> Written {
+    unsafe { khx_encode(instruction, room.as_mut_ptr(), room.len()) }
+}
+
+pub fn run(state: State, program: &[u8], data: &mut [u8], cells: &mut [u16], budget: u32) -> Ran {
+    unsafe {
+        khx_run(
+            state,
+            program.as_ptr(),
+            program.len(),
+            data.as_mut_ptr(),
+            data.len(),
+            cells.as_mut_ptr(),
+            cells.len(),
+            budget,
+        )
+    }
+}
+
+pub fn verify(program: &[u8], cells: usize, map: &mut [u16]) -> Verdict {
+    unsafe {
+        khx_verify(
+            program.as_ptr(),
+            program.len(),
+            cells,
+            map.as_mut_ptr(),
+            map.len(),
+        )
+    }
+}
+
+pub fn list(program: &[u8], room: &mut [u8]) -> Written {
+    unsafe {
+        khx_list(
+            program.as_ptr(),
+            program.len(),
+            room.as_mut_ptr(),
+            room.len(),
+        )
+    }
+}
+
+pub fn pack_check(pack: &[u8]) -> Checked {
+    unsafe { khx_pack_check(pack.as_ptr(), pack.len()) }
+}
+
+pub fn pack_entry(pack: &[u8], index: usize) -> Entry {
+    unsafe { khx_pack_entry(pack.as_ptr(), pack.len(), index) }
+}
+
+pub fn pack_find(pack: &[u8], tag: u16) -> Entry {
+    unsafe { khx_pack_find(pack.as_ptr(), pack.len(), tag) }
+}
+
+pub fn pack_write(
+    tags: &[u16],
+    cells: &[u16],
+    lengths: &[u16],
+    bodies: &[u8],
+    room: &mut [u8],
+) -> Written {
+    unsafe {
+        khx_pack_write(
+            tags.as_ptr(),
+            tags.len(),
+            cells.as_ptr(),
+            cells.len(),
+            lengths.as_ptr(),
+            lengths.len(),
+            bodies.as_ptr(),
+            bodies.len(),
+            room.as_mut_ptr(),
+            room.len(),
+        )
+    }
+}
+
+pub fn report(pack: &[u8], map: &mut [u16], room: &mut [u8]) -> Written {
+    unsafe {
+        khx_report(
+            pack.as_ptr(),
+            pack.len(),
+            map.as_mut_ptr(),
+            map.len(),
+            room.as_mut_ptr(),
+            room.len(),
+        )
+    }
+}

@@ -1,0 +1,80 @@
+//! The proved rule engine of a font sanitiser, for Rust: a safe face over
+//! libkhalixoshi.a, whose functions are proved to do what their contracts say.
+//!
+//! A rule is a small program. It is verified once, and then run over a font table
+//! as its data:
+//!
+//! ```
+//! use khalixoshi::{depths, State, Status};
+//!
+//! // push 5, push 3, sub, halt
+//! let program = [0x85, 0x83, 0x15, 0x00];
+//! assert_eq!(depths(&program, 2)?, [0, 1, 2, 1]);
+//!
+//! let (mut table, mut cells) = ([], [0; 2]);
+//! let ran = State::fresh().run(&program, &mut table, &mut cells, 10)?;
+//! assert_eq!(ran.steps, 4);
+//! assert_eq!(ran.state.status, Status::Halted);
+//! assert_eq!(ran.state.stack(&cells), [65_534]);
+//! # Ok::<(), Box<dyn std::error::Error>>(())
+//! ```
+//!
+//! Rules come in packs, found by their tags:
+//!
+//! ```
+//! use khalixoshi::pack;
+//!
+//! let rule = pack::Rule { tag: 7, cells: 2, body: &[0x85, 0x83, 0x15, 0x00] };
+//! let bytes = pack::build(&[rule])?;
+//! let entry = pack::find(&bytes, 7)?;
+//! assert_eq!(pack::body(&bytes, &entry), rule.body);
+//! assert_eq!(khalixoshi::verdicts(&bytes), "0007 accepted\n");
+//! # Ok::<(), khalixoshi::Error>(())
+//! ```
+//!
+//! Every memory is lent by the caller, and nothing is kept between calls: calls on
+//! different memories may run at the same time. Beside each function over a lent
+//! room stands one that makes its room itself.
+
+#![deny(unsafe_code)]
+#![warn(missing_docs)]
+
+#[cfg(not(all(target_arch = "x86_64", target_os = "linux")))]
+compile_error!(
+    "libkhalixoshi.a is for x86-64 Linux: build for the target x86_64-unknown-linux-gnu \
+     (tools/host does so on every processor)"
+);
+
+#[allow(unsafe_code)]
+mod c;
+mod error;
+mod instruction;
+mod listing;
+pub mod pack;
+mod report;
+mod run;
+mod verify;
+
+pub use error::{Error, Fault};
+pub use instruction::{decode, encode, encoded, Decoded, Instruction, Reader};
+pub use listing::{list, listing};
+pub use report::{report, verdicts};
+pub use run::{Ran, State, Status};
+pub use verify::{depths, verify, Refused};
+
+/// The most bytes of a program.
+pub const PROGRAM_MAX: usize = 16_384;
+/// The most bytes of data.
+pub const DATA_MAX: usize = 65_535;
+/// The most stack cells.
+pub const CELLS_MAX: usize = 1_024;
+/// The most bytes of an instruction.
+pub const INSTRUCTION_MAX: usize = 9;
+/// The most bytes of a pack.
+pub const PACK_MAX: usize = 24_576;
+/// The most entries of a pack.
+pub const ENTRIES_MAX: usize = 64;
+/// The bytes of room that are enough for every report.
+pub const REPORT_MAX: usize = 1_560;
+/// What a depth map holds for an address that no path meets.
+pub const UNMET: u16 = 65_535;

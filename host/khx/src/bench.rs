@@ -1,0 +1,198 @@
+//! `khx bench`: the proved library against plain careful C, in one process.
+
+mod case;
+mod cases;
+mod clock;
+mod findings;
+mod processor;
+mod programs;
+
+use std::io::{self, ErrorKind, Write};
+use std::time::Duration;
+
+use crate::failure::Failure;
+use crate::progress::Progress;
+use case::Case;
+use findings::Finding;
+
+const HELP: &str = "\
+usage: khx bench [--seconds N] [CASE..]
+
+Times the proved library against plain careful C that does the same checks, and
+says whether the targets are met. Without a CASE, all of them.
+
+  --seconds N   how long to time, all cases together (default 10)
+
+cases:
+";
+
+/// What holds for all figures.
+const CONDITIONS: &str = "\
+Before timing, all sides gave the same answers and left the same memories.
+Buffers are cleared first: each timed part starts from the same data, cells and map,
+laid out anew outside the timed part. The sides take turns in one process, in
+alternating order; a time is the least of all rounds.
+A ratio is C's time by ours: over 1, ours is faster.
+";
+
+/// The seconds, and the cases that are asked for.
+struct Wanted {
+    seconds: f64,
+    cases: Vec<Case>,
+}
+
+/// Gives the exit status: 0, 1 where the sides give different answers, 2 for bad
+/// usage. A target that is missed is told, and is no failure.
+pub fn main(args: &[String]) -> i32 {
+    let text = if args.iter().any(|word| word == "--help" || word == "-h") {
+        Ok(help())
+    } else {
+        wanted(args).and_then(bench)
+    };
+    let printed = text.and_then(|text| Ok(io::stdout().write_all(text.as_bytes())?));
+    match printed {
+        Ok(()) => 0,
+        Err(Failure::Output(error)) if error.kind() == ErrorKind::BrokenPipe => 0,
+        Err(failure) => {
+            // Where this cannot be written either, the status tells.
+            let _ = writeln!(io::stderr(), "khx: bench: {failure}");
+            failure.status().into()
+        }
+    }
+}
+
+fn help() -> String {
+    let lines = cases::all()
+        .into_iter()
+        .map(|case| format!("  {:18}{}\n", case.name, case.about));
+    HELP.to_string() + &lines.collect::<String>()
+}
+
+fn wanted(args: &[String]) -> Result<Wanted, Failure> {
+    let mut seconds = 10.0;
+    let mut names = Vec::new();
+    let mut words = args.iter();
+    while let Some(word) = words.next() {
+        if word == "--seconds" {
+            seconds = seconds_in(words.next())?;
+        } else if word.starts_with('-') {
+            return Err(wrong(format!("there is no option {word}")));
+        } else {
+            names.push(word.as_str());
+        }
+    }
+    let mut cases = cases::all();
+    let known = |name: &str| cases.iter().any(|case| case.name == name);
+    if let Some(name) = names.iter().find(|name| !known(name)) {
+        return Err(wrong(format!("there is no case {name}")));
+    }
+    cases.retain(|case| names.is_empty() || names.contains(&case.name));
+    Ok(Wanted { seconds, cases })
+}
+
+fn seconds_in(word: Option<&String>) -> Result<f64, Failure> {
+    let number = word.and_then(|word| word.parse::<f64>().ok());
+    number
+        .filter(|number| (0.0..=3600.0).contains(number))
+        .ok_or_else(|| wrong("--seconds needs a number from 0 to 3600".to_string()))
+}
+
+fn wrong(message: String) -> Failure {
+    Failure::usage(message + ": see khx bench --help")
+}
+
+/// Times the cases and gives the whole report.
+fn bench(mut wanted: Wanted) -> Result<String, Failure> {
+    for case in &mut wanted.cases {
+        case.agree().map_err(Failure::Refused)?;
+    }
+    let findings = time(wanted);
+    Ok(format!(
+        "{}{CONDITIONS}\n{}\n{}",
+        machine(),
+        findings::table(&findings),
+        findings::targets(&findings)
+    ))
+}
+
+fn time(wanted: Wanted) -> Vec<Finding> {
+    let count = wanted.cases.len();
+    let share = Duration::from_secs_f64(wanted.seconds / count as f64);
+    let mut progress = Progress::new();
+    let mut findings = Vec::new();
+    for (i, mut case) in wanted.cases.into_iter().enumerate() {
+        let name = case.name;
+        let each_round = || progress.show(|| format!("timing {name}, {} of {count}", i + 1));
+        let timed = clock::time(&mut case, share, each_round);
+        findings.push(Finding::of(&case, &timed));
+    }
+    findings
+}
+
+/// The processor and the C compiler.
+fn machine() -> String {
+    let emulated = match processor::emulator() {
+        Some(emulator) => format!(
+            "This is the emulator {emulator}: its ratios say little about a real processor.\n"
+        ),
+        None => String::new(),
+    };
+    format!(
+        "libkhalixoshi.a against plain careful C with the same checks\nprocessor: {}\n{emulated}C compiler: {}, -O2\n",
+        processor::name(),
+        peer::COMPILER
+    )
+}
+
+#[cfg(test)]
+mod tests {
+    use super::*;
+
+    fn words(line: &str) -> Vec<String> {
+        line.split_whitespace().map(String::from).collect()
+    }
+
+    #[test]
+    fn all_sides_agree_on_every_case() {
+        for mut case in cases::all() {
+            case.agree().unwrap();
+        }
+    }
+
+    #[test]
+    fn cases_and_seconds() {
+        let all = wanted(&[]).unwrap_or_else(|failure| panic!("{failure}"));
+        assert_eq!((all.seconds, all.cases.len()), (10.0, cases::all().len()));
+        let two = wanted(&words("pack-check --seconds 0.5 counting"));
+        let two = two.unwrap_or_else(|failure| panic!("{failure}"));
+        assert_eq!(two.seconds, 0.5);
+        let names: Vec<&str> = two.cases.iter().map(|case| case.name).collect();
+        assert_eq!(names, ["counting", "pack-check"]);
+    }
+
+    #[test]
+    fn bad_usage() {
+        for line in [
+            "--seconds",
+            "--seconds x",
+            "--seconds -1",
+            "--seconds inf",
+            "--fast",
+            "nothing",
+        ] {
+            assert!(
+                matches!(wanted(&words(line)), Err(Failure::Usage(_))),
+                "{line}"
+            );
+        }
+    }
+
+    #[test]
+    fn a_short_run_reports_every_case() {
+        let wanted = wanted(&words("--seconds 0 counting pack-check"));
+        let report = wanted.and_then(bench).unwrap();
+        for part in ["processor: ", "counting ", "pack-check ", "run at least"] {
+            assert!(report.contains(part), "{part} is not in {report}");
+        }
+    }
+}

@@ -1,0 +1,107 @@
+//! khx: the command for people. Here: which command was asked for, and how it ends.
+
+mod args;
+mod bench;
+mod check;
+mod conform;
+mod failure;
+mod files;
+mod lines;
+mod list;
+mod manifest;
+mod pack;
+mod progress;
+mod run;
+mod terminal;
+
+use std::ffi::OsString;
+use std::io::{self, BufWriter, ErrorKind, Write};
+use std::process::ExitCode;
+
+use args::Args;
+use failure::{Failure, Outcome};
+
+const HELP: &str = "\
+khx: rules of a font sanitiser, checked, listed, run and packed by the proved engine.
+
+usage: khx COMMAND WORDS..
+
+  check PACK            the verdict on each rule of a pack, and why a rule is refused
+  list FILE             the listing of a program, or of each rule of a pack
+  run PROGRAM TABLE     runs a program over a font table
+  pack MANIFEST         builds a pack from its rules
+  conform               answers the cases of the conformance protocol
+  bench                 measures the engine against plain C
+
+`khx COMMAND --help` says more. A file named - is standard input.
+Exit status: 0 good; 1 refused or faulted; 2 bad usage, or a file that cannot be read or written.
+";
+
+fn main() -> ExitCode {
+    let words: Vec<OsString> = std::env::args_os().skip(1).collect();
+    if words.first().map_or(false, |name| name == "bench") {
+        return bench(&words[1..]);
+    }
+    let mut out = BufWriter::new(io::stdout().lock());
+    let answer = command(words, &mut out).and_then(|outcome| {
+        out.flush()?;
+        Ok(outcome)
+    });
+    match answer {
+        Ok(Outcome::Good) => ExitCode::SUCCESS,
+        Ok(Outcome::Bad) => ExitCode::from(1),
+        Err(Failure::Output(error)) if error.kind() == ErrorKind::BrokenPipe => ExitCode::SUCCESS,
+        Err(failure) => {
+            // What was printed before goes first. Where neither can be written, the status tells.
+            let _ = out.flush();
+            let _ = writeln!(
+                io::stderr(),
+                "khx: {}",
+                failure.to_string().replace('\n', " ")
+            );
+            ExitCode::from(failure.status())
+        }
+    }
+}
+
+fn command(mut words: Vec<OsString>, out: &mut dyn Write) -> Result<Outcome, Failure> {
+    if words.is_empty() {
+        return Err(Failure::usage("no command is given: see khx --help"));
+    }
+    let name = words.remove(0).to_string_lossy().into_owned();
+    let (help, main): (&str, Command) = match name.as_str() {
+        "check" => (check::HELP, check::main),
+        "list" => (list::HELP, list::main),
+        "run" => (run::HELP, run::main),
+        "pack" => (pack::HELP, pack::main),
+        "conform" => (conform::HELP, conform::main),
+        "--help" | "-h" | "help" => (HELP, help),
+        _ => {
+            let message = format!("there is no command {name}: see khx --help");
+            return Err(Failure::usage(message));
+        }
+    };
+    let mut args = Args::new(&name, words);
+    if args.flag("--help") || args.flag("-h") {
+        out.write_all(help.as_bytes())?;
+        return Ok(Outcome::Good);
+    }
+    main(args, out)
+}
+
+/// The benchmark prints as it goes, and has its own exit status.
+fn bench(words: &[OsString]) -> ExitCode {
+    let words: Vec<String> = words
+        .iter()
+        .map(|word| word.to_string_lossy().into_owned())
+        .collect();
+    ExitCode::from(bench::main(&words) as u8)
+}
+
+type Command = fn(Args, &mut dyn Write) -> Result<Outcome, Failure>;
+
+fn help(args: Args, out: &mut dyn Write) -> Result<Outcome, Failure> {
+    let [] = args.files(&[])?;
+    out.write_all(HELP.as_bytes())?;
+    Ok(Outcome::Good)
+}

@@ -1,0 +1,62 @@
+/*
+ * Plain careful C to measure the proved library against: the same rules with every check, written for reading and for
+ * gcc -O2. Nothing else uses it. A refusal is a number, 0 for none.
+ */
+#ifndef PEER_H
+#define PEER_H
+
+#include <stddef.h>
+#include <stdint.h>
+
+enum {
+    PROGRAM_MAX = 16384,
+    DATA_MAX = 65535,
+    CELLS_MAX = 1024,
+    PACK_MAX = 24576,
+    ENTRIES_MAX = 64
+};
+
+/* A cell of a depth map whose address no path meets. */
+enum { UNMET = 65535 };
+
+/* A status is one of these or a fault's number, 1 to 8. */
+enum { RUNNING = 0, HALTED = 100 };
+
+typedef struct {
+    uint32_t address;
+    uint32_t depth;
+    uint32_t status;
+} peer_state;
+
+typedef struct {
+    uint32_t refusal;
+    uint32_t steps;
+    peer_state state;
+} peer_ran;
+
+typedef struct {
+    uint32_t refusal;
+    uint32_t at;
+} peer_verdict;
+
+typedef struct {
+    uint32_t refusal;
+    uint32_t entries;
+} peer_checked;
+
+/* At most `budget` steps. Refusals: 20, 21, 22, 24. */
+peer_ran peer_run(peer_state state, const uint8_t *program, size_t program_length, uint8_t *data, size_t data_length,
+                  uint16_t *cells, size_t cells_length, uint32_t budget);
+
+/* The depth map by a cursor that falls back to a lower address. `done` has a byte for each byte of the program. */
+peer_verdict peer_verify(const uint8_t *program, size_t program_length, size_t cells, uint16_t *map, size_t map_length,
+                         uint8_t *done);
+
+/* The depth map with the addresses still due in a bitmap of two levels. */
+peer_verdict peer_verify_bitmap(const uint8_t *program, size_t program_length, size_t cells, uint16_t *map,
+                                size_t map_length);
+
+/* Checks a whole pack. Refusals: 30 to 35. */
+peer_checked peer_pack_check(const uint8_t *pack, size_t pack_length);
+
+#endif

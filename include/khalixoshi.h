@@ -1,0 +1,209 @@
+/*
+ * Khalixoshi: the proved rule engine of a font sanitiser. Link with libkhalixoshi.a (x86-64 Linux); of the C library it
+ * needs memcpy and memset alone. It has no heap and no state of its own: calls on different memories may run at the same time.
+ *
+ * What a caller owes, since C cannot say it: each pointer leads to as many elements as the count after it says (where the
+ * count is 0 it is not followed and may be NULL), and what a function may write overlaps nothing else that it is lent.
+ * Beyond that any arguments are allowed: a function refuses, by a number, what it cannot take.
+ *
+ * Every answer has a field `refusal`: 0, or the number of the first refusal that applies. After a refusal the other fields
+ * are 0 but where it is said, and what was lent is as it was but where it is said.
+ */
+#ifndef KHALIXOSHI_H
+#define KHALIXOSHI_H
+
+#include <stddef.h>
+#include <stdint.h>
+
+#ifdef __cplusplus
+extern "C" {
+#endif
+
+/* Sizes: the largest that are taken. */
+#define KHX_PROGRAM_MAX 16384u       /* bytes of a program */
+#define KHX_DATA_MAX 65535u          /* bytes of data */
+#define KHX_CELLS_MAX 1024u          /* stack cells of 16 bits */
+#define KHX_INSTRUCTION_MAX 9u       /* bytes of an instruction */
+#define KHX_PACK_MAX 24576u          /* bytes of a pack */
+#define KHX_ENTRIES_MAX 64u          /* entries of a pack */
+
+/* The longest report on a pack, in bytes. */
+#define KHX_REPORT_MAX 1560u
+
+/* A cell of a depth map whose address no path meets. */
+#define KHX_UNMET 65535u
+
+/* Faults and refusals. */
+enum {
+    KHX_NONE = 0,
+    KHX_END = 1,             /* address at or past the program's end */
+    KHX_ILLEGAL = 2,         /* illegal first byte, flags or shift byte */
+    KHX_CUT = 3,             /* operands cut by the program's end */
+    KHX_FEW = 4,             /* fewer values than are taken */
+    KHX_FULL = 5,            /* depth less taken plus pushed exceeds the cells */
+    KHX_DATA_RANGE = 6,      /* data range */
+    KHX_PROGRAM_RANGE = 7,   /* program range in pcopy */
+    KHX_FUNCTION = 8,        /* no such function */
+    KHX_UNVERIFIABLE = 9,    /* verifier: codes 05 to 0A, 3B, 55 */
+    KHX_TWO_DEPTHS = 10,     /* verifier: an address met at two depths */
+    KHX_PROGRAM_SIZE = 20,   /* program over size */
+    KHX_DATA_SIZE = 21,      /* data over size */
+    KHX_CELLS_SIZE = 22,     /* cells over size */
+    KHX_MAP_SIZE = 23,       /* depth map not as long as the program; report: map under KHX_PROGRAM_MAX */
+    KHX_DEEP = 24,           /* state deeper than the stack */
+    KHX_ROOM = 25,           /* output longer than the room lent */
+    KHX_UNWRITABLE = 26,     /* encoder: no instruction has these fields */
+    KHX_PACK_CONTENTS = 30,  /* pack: contents cut, or more than 64 entries; writer: lists of unlike length too */
+    KHX_PACK_SIZE = 31,      /* pack: over size */
+    KHX_PACK_TAGS = 32,      /* pack: a tag not above the one before */
+    KHX_PACK_OFFSET = 33,    /* pack: wrong offset */
+    KHX_PACK_END = 34,       /* pack: bodies don't end at the pack's end; writer: lengths and bodies differ */
+    KHX_PACK_ENTRY = 35,     /* pack: cells over 1,024 or length over 16,384 */
+    KHX_PACK_ABSENT = 36     /* pack: no such tag */
+};
+
+/* A machine's status. */
+enum { KHX_RUNNING = 0, KHX_HALTED = 1, KHX_FAULTED = 2 };
+
+/*
+ * An instruction as a value. Codes 80 to BF are code 80 with the six bits as `number`; C0 to FF are code C0 with `count`
+ * values, of which value i has two bytes in the code where bit i of `flags` is set. What the form lacks is 0.
+ */
+typedef struct khx_instruction {
+    uint8_t code;
+    uint8_t count;
+    uint8_t flags;
+    uint16_t number;
+    uint16_t v0;
+    uint16_t v1;
+    uint16_t v2;
+    uint16_t v3;
+} khx_instruction;
+
+/* What stands at an address: the instruction and its length in bytes. */
+typedef struct khx_decoded {
+    size_t refusal;
+    size_t length;
+    khx_instruction instruction;
+} khx_decoded;
+
+/* What was written into a room: so many bytes at its start; those after them are as they were. */
+typedef struct khx_written {
+    size_t refusal;
+    size_t length;
+} khx_written;
+
+/*
+ * A machine's state. All 0 is the fresh state. `fault` is the fault's number where the status is KHX_FAULTED. Handed in, a
+ * status over 2 is taken as KHX_FAULTED, so it cannot run, and comes back so; the fault of another status is not looked
+ * at and comes back 0.
+ */
+typedef struct khx_state {
+    size_t address;
+    size_t depth;
+    size_t status;
+    size_t fault;
+} khx_state;
+
+/* What a run came to: the steps taken and the state, which after a refusal is the one handed in. */
+typedef struct khx_ran {
+    size_t refusal;
+    uint32_t steps;
+    khx_state state;
+} khx_ran;
+
+/* What the verifier says. `at` is the address of the instruction refused by 1 to 10, and 0 otherwise. */
+typedef struct khx_verdict {
+    size_t refusal;
+    size_t at;
+} khx_verdict;
+
+/* A good pack's count of entries. */
+typedef struct khx_checked {
+    size_t refusal;
+    size_t entries;
+} khx_checked;
+
+/* An entry of a good pack where `present` is 1: its body is the `length` bytes of the pack from `offset`. */
+typedef struct khx_entry {
+    size_t refusal;
+    size_t present;
+    uint16_t tag;
+    uint16_t cells;
+    uint16_t offset;
+    uint16_t length;
+} khx_entry;
+
+/* The instruction at an address of a program. Refusals: 20, 1, 2, 3. */
+khx_decoded khx_decode(const uint8_t *program, size_t program_length, size_t at);
+
+/* The same at *at, which is moved past the instruction; on a refusal it stays. Start at 0. Refusals: 20, 1, 2, 3. */
+khx_decoded khx_read(const uint8_t *program, size_t program_length, size_t *at);
+
+/* Writes an instruction; KHX_INSTRUCTION_MAX bytes of room are enough. Refusals: 26, 25. */
+khx_written khx_encode(khx_instruction instruction, uint8_t *room, size_t room_length);
+
+/* The state with which a program starts: address 0, depth 0, running. */
+static inline khx_state khx_fresh(void)
+{
+    khx_state state = {0, 0, KHX_RUNNING, 0};
+    return state;
+}
+
+/*
+ * Runs at most `budget` steps over the lent data and cells. The status afterwards is KHX_RUNNING (the budget is used: hand
+ * the state in again to go on), KHX_HALTED, or KHX_FAULTED by 1 to 8. With depth d the live values are the last d cells,
+ * the top first. A stopped state comes back as it was, 0 steps. Refusals: 20, 21, 22, 24; none touches a memory.
+ */
+khx_ran khx_run(khx_state state, const uint8_t *program, size_t program_length, uint8_t *data, size_t data_length,
+                uint16_t *cells, size_t cells_length, uint32_t budget);
+
+/* One step: a run with a budget of one. */
+static inline khx_ran khx_step(khx_state state, const uint8_t *program, size_t program_length, uint8_t *data,
+                               size_t data_length, uint16_t *cells, size_t cells_length)
+{
+    return khx_run(state, program, program_length, data, data_length, cells, cells_length, 1);
+}
+
+/*
+ * Whether a program may run with so many stack cells: started fresh with as many or more, it then faults only by 6 or 7,
+ * and its depth is always the one that the map has for its address. The map has a cell for each byte of the program.
+ * Accepted: the depth of each address that a path meets, KHX_UNMET elsewhere. Refused by 1 to 10: every cell KHX_UNMET.
+ * Refusals: 20, 22, 23, then by the walk 1 to 5 and 8 to 10.
+ */
+khx_verdict khx_verify(const uint8_t *program, size_t program_length, size_t cells, uint16_t *map, size_t map_length);
+
+/* Writes the listing of a program, a line for each instruction; no zero byte ends it. Refusals: 20, 25. */
+khx_written khx_list(const uint8_t *program, size_t program_length, uint8_t *room, size_t room_length);
+
+/* Checks a whole pack. Refusals: 30 to 35. */
+khx_checked khx_pack_check(const uint8_t *pack, size_t pack_length);
+
+/* The entry at an index, the first being 0; past the last `present` is 0 and `refusal` too. Refusals: 30 to 35. */
+khx_entry khx_pack_entry(const uint8_t *pack, size_t pack_length, size_t index);
+
+/* The entry with a tag. Refusals: 30 to 35, 36. */
+khx_entry khx_pack_find(const uint8_t *pack, size_t pack_length, uint16_t tag);
+
+/*
+ * Writes a pack from the tags, cells and lengths of its entries and their bodies end to end. The three lists have the same
+ * count; the tags ascend. KHX_PACK_MAX bytes of room are enough. Refusals: 30, 32, 35, 34, 31, 25.
+ */
+khx_written khx_pack_write(const uint16_t *tags, size_t tags_count, const uint16_t *cells, size_t cells_count,
+                           const uint16_t *lengths, size_t lengths_count, const uint8_t *bodies, size_t bodies_length,
+                           uint8_t *room, size_t room_length);
+
+/*
+ * Writes the report on a pack: `TTTT accepted` or `TTTT refused N at AAAA` for each entry, tag and address in hexadecimal,
+ * or only `pack refused N`; a line feed after each line, no zero byte at the end. KHX_REPORT_MAX bytes of room are enough.
+ * The programs are verified over the map, which has KHX_PROGRAM_MAX cells or more; it is written over, and also where the
+ * report is refused by 25. Refusals: 23, 25.
+ */
+khx_written khx_report(const uint8_t *pack, size_t pack_length, uint16_t *map, size_t map_length, uint8_t *room,
+                       size_t room_length);
+
+#ifdef __cplusplus
+}
+#endif
+
+#endif
