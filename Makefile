@@ -18,6 +18,7 @@ test:
 
 # The proved library for x86-64, as C and Rust link it: rt proves its crate before it is built.
 $(library): $(shell find crates -path '*/src/*.rt')
+	@echo "building libkhalixoshi.a: its crates are proved first, which takes some minutes" >&2
 	@mkdir -p target && rt staticlib khalixoshi >target/staticlib.log 2>&1 || { cat target/staticlib.log; exit 1; }
 	@touch $@
 

@@ -2,8 +2,9 @@
  * Khalixoshi: the proved rule engine of a font sanitiser. Link with libkhalixoshi.a (x86-64 Linux); of the C library it
  * needs memcpy and memset alone. It has no heap and no state of its own: calls on different memories may run at the same time.
  *
- * What a caller owes, since C cannot say it: each pointer leads to as many elements as the count after it says (where the
- * count is 0 it is not followed and may be NULL), and what a function may write overlaps nothing else that it is lent.
+ * What a caller owes, since C cannot say it: each pointer is aligned and leads to as many elements as the count after it
+ * says, `at` of khx_read to one (where the count is 0 it is not followed and may be NULL), and what a function may write
+ * overlaps nothing else that it is lent.
  * Beyond that any arguments are allowed: a function refuses, by a number, what it cannot take.
  *
  * Every answer has a field `refusal`: 0, or the number of the first refusal that applies. After a refusal the other fields
@@ -176,18 +177,19 @@ khx_verdict khx_verify(const uint8_t *program, size_t program_length, size_t cel
 /* Writes the listing of a program, a line for each instruction; no zero byte ends it. Refusals: 20, 25. */
 khx_written khx_list(const uint8_t *program, size_t program_length, uint8_t *room, size_t room_length);
 
-/* Checks a whole pack. Refusals: 30 to 35. */
+/* Checks a whole pack. Refusals: 31, 30, then entry by entry 32, 35, 33, and last 34. */
 khx_checked khx_pack_check(const uint8_t *pack, size_t pack_length);
 
-/* The entry at an index, the first being 0; past the last `present` is 0 and `refusal` too. Refusals: 30 to 35. */
+/* The entry at an index, the first being 0; past the last `present` is 0 and `refusal` too. Refusals: as khx_pack_check. */
 khx_entry khx_pack_entry(const uint8_t *pack, size_t pack_length, size_t index);
 
-/* The entry with a tag. Refusals: 30 to 35, 36. */
+/* The entry with a tag. Refusals: as khx_pack_check, then 36. */
 khx_entry khx_pack_find(const uint8_t *pack, size_t pack_length, uint16_t tag);
 
 /*
  * Writes a pack from the tags, cells and lengths of its entries and their bodies end to end. The three lists have the same
- * count; the tags ascend. KHX_PACK_MAX bytes of room are enough. Refusals: 30, 32, 35, 34, 31, 25.
+ * count; the tags ascend. KHX_PACK_MAX bytes of room are enough. Refusals: 30, then entry by entry 32, 35, then
+ * 34, 31, 25.
  */
 khx_written khx_pack_write(const uint16_t *tags, size_t tags_count, const uint16_t *cells, size_t cells_count,
                            const uint16_t *lengths, size_t lengths_count, const uint8_t *bodies, size_t bodies_length,

@@ -1,4 +1,4 @@
-//! Compiles the C in c/ by `gcc -O2`, or by the compiler that CC names.
+//! Compiles the C in c/ by `gcc -O2`.
 
 use std::env;
 use std::path::{Path, PathBuf};
@@ -8,15 +8,14 @@ const SOURCES: [&str; 4] = ["run", "verify", "verify_bitmap", "pack"];
 
 fn main() {
     println!("cargo:rerun-if-changed=c");
-    println!("cargo:rerun-if-env-changed=CC");
-    let compiler = env::var("CC").unwrap_or_else(|_| default_compiler().to_string());
+    let compiler = compiler();
     let out = PathBuf::from(env::var("OUT_DIR").expect("cargo sets OUT_DIR"));
     let archive = out.join("libpeer.a");
     let objects: Vec<PathBuf> = SOURCES
         .iter()
-        .map(|name| compile(&compiler, name, &out))
+        .map(|name| compile(compiler, name, &out))
         .collect();
-    let archiver = said_by(&compiler, "-print-prog-name=ar");
+    let archiver = said_by(compiler, "-print-prog-name=ar");
     let _ = std::fs::remove_file(&archive);
     run(Command::new(&archiver)
         .arg("crs")
@@ -24,12 +23,12 @@ fn main() {
         .args(&objects));
     println!("cargo:rustc-link-search=native={}", out.display());
     println!("cargo:rustc-link-lib=static=peer");
-    let version = said_by(&compiler, "--version");
+    let version = said_by(compiler, "--version");
     println!("cargo:rustc-env=PEER_COMPILER={version}");
 }
 
 /// gcc for the processor that cargo builds for.
-fn default_compiler() -> &'static str {
+fn compiler() -> &'static str {
     let target = env::var("TARGET").expect("cargo sets TARGET");
     let host = env::var("HOST").expect("cargo sets HOST");
     if target.starts_with("x86_64") && !host.starts_with("x86_64") {

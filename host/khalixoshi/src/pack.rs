@@ -26,7 +26,8 @@ pub struct Rule<'a> {
     pub body: &'a [u8],
 }
 
-/// Checks a whole pack, and gives its count of entries. Refusals: 30 to 35.
+/// Checks a whole pack, and gives its count of entries. Refusals: 31, 30, then entry
+/// by entry 32, 35, 33, and last 34.
 ///
 /// ```
 /// use khalixoshi::{pack, Error};
@@ -39,7 +40,7 @@ pub fn check(pack: &[u8]) -> Result<usize, Error> {
     Error::unless_none(checked.refusal).map(|()| checked.entries)
 }
 
-/// All entries of a pack, in order. Refusals: 30 to 35.
+/// All entries of a pack, in order. Refusals: those of [`check`].
 ///
 /// ```
 /// use khalixoshi::pack::{build, entries, Rule};
@@ -60,7 +61,8 @@ pub fn entries(pack: &[u8]) -> Result<Vec<Entry>, Error> {
     Ok(entries)
 }
 
-/// The entry at an index, the first being 0; none past the last. Refusals: 30 to 35.
+/// The entry at an index, the first being 0; none past the last. Refusals: those of
+/// [`check`].
 ///
 /// ```
 /// use khalixoshi::pack;
@@ -76,7 +78,7 @@ pub fn entry(pack: &[u8], index: usize) -> Result<Option<Entry>, Error> {
     Ok((found.present == 1).then(|| Entry::of(&found)))
 }
 
-/// The entry with a tag. Refusals: 30 to 35, 36.
+/// The entry with a tag. Refusals: those of [`check`], then 36.
 ///
 /// ```
 /// use khalixoshi::{pack, Error};

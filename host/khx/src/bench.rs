@@ -55,7 +55,8 @@ pub fn main(args: &[String]) -> i32 {
         Err(Failure::Output(error)) if error.kind() == ErrorKind::BrokenPipe => 0,
         Err(failure) => {
             // Where this cannot be written either, the status tells.
-            let _ = writeln!(io::stderr(), "khx: bench: {failure}");
+            let told = failure.to_string().replace('\n', " ");
+            let _ = writeln!(io::stderr(), "khx: bench: {told}");
             failure.status().into()
         }
     }

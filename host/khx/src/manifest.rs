@@ -6,7 +6,7 @@ use std::path::{Path, PathBuf};
 use crate::failure::Failure;
 use crate::files;
 
-/// More text than the longest manifest has.
+/// The most bytes of a manifest.
 const MANIFEST_MAX: usize = 1_000_000;
 
 /// A rule's line, and its number in the file.
@@ -21,6 +21,10 @@ pub struct Line {
 /// The lines of a manifest; their files are looked for from its folder.
 pub fn read(manifest: &OsStr) -> Result<Vec<Line>, Failure> {
     let text = files::read(manifest, MANIFEST_MAX)?;
+    if text.len() > MANIFEST_MAX {
+        let name = files::name(manifest);
+        return Err(Failure::File(format!("{name}: over {MANIFEST_MAX} bytes")));
+    }
     let folder = match Path::new(manifest).parent() {
         Some(folder) if folder != Path::new("") => folder,
         _ => Path::new("."),

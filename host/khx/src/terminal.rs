@@ -1,4 +1,4 @@
-//! Whether an output is a terminal.
+//! Whether an input or an output is a terminal.
 
 use std::os::raw::c_int;
 

@@ -341,6 +341,8 @@ fn pack_refused_at_a_line() {
     fails(&many, 1, "rules.txt:65: refused 30: ");
     fails("7 2 m1.rex\n8 m1.rex\n", 2, "rules.txt:2: TAG CELLS FILE");
     fails("7 2 none.rex\n", 2, "none.rex: ");
+    let long = format!("7 2 m1.rex\n#{}\n", " ".repeat(1_000_000));
+    fails(&long, 2, "rules.txt: over 1000000 bytes");
 }
 
 /// The page has each case with its answer below it.

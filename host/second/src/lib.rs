@@ -1,6 +1,6 @@
 //! A second implementation of the machine that 01 describes, written from the
-//! published rules alone. It shares no code with the first one, so that the
-//! answers of the two can be compared.
+//! published rules and our readings of them. It shares no code with the first one,
+//! so that the answers of the two can be compared.
 //!
 //! - [`opcodes`]: document 004's table, as data.
 //! - [`numbers`]: the numbers and sizes of 01.

@@ -128,11 +128,12 @@ mod tests {
             b"run c901feff20 0102 00000000 0 0 running 9",
             b"run c901ffff20 0102 00000000 0 0 running 1",
             b"run c901ffff1f 0102 00000000 0 0 running 9",
-            b"run c9000000 20 0102 0000 0 0 running 9",
+            b"run c900000020 0102 0000 0 0 running 9",
             b"step 20 0102 0001ffff 0 3 running",
         ];
         for line in alike {
             assert_eq!(answer(&Planted, line), answer(&Second, line));
+            assert_ne!(answer(&Second, line), conform::BAD_CASE);
         }
     }
 }
