@@ -22,6 +22,11 @@ $(library): $(shell find crates -path '*/src/*.rt')
 	@mkdir -p target && rt staticlib khalixoshi >target/staticlib.log 2>&1 || { cat target/staticlib.log; exit 1; }
 	@touch $@
 
+# The same code for this processor, where it is no x86-64, to be timed.
+target/native/libkhalixoshi.a: $(library)
+	@echo "compiling the library for this processor: its last crate is proved again, which takes half a minute" >&2
+	@tools/native
+
 host: $(library)
 	@tools/host build --quiet --release -p khx -p trials
 	@tools/khx-launch

@@ -6,26 +6,42 @@ use std::{env, process};
 const FOLDER: &str = "KHALIXOSHI_LIB_DIR";
 
 fn main() {
-    let folder = folder();
-    let archive = folder.join("libkhalixoshi.a");
     println!("cargo:rerun-if-env-changed={FOLDER}");
+    let folder = match env::var_os(FOLDER) {
+        Some(folder) => PathBuf::from(folder),
+        None => shipped(),
+    };
+    let archive = folder.join("libkhalixoshi.a");
     println!("cargo:rerun-if-changed={}", archive.display());
     if !archive.is_file() {
-        eprintln!(
+        refuse(&format!(
             "{} is not there. Build it with `rt staticlib khalixoshi` at the repository's root, \
              or name the folder that holds libkhalixoshi.a in {FOLDER}.",
             archive.display()
-        );
-        process::exit(1);
+        ));
     }
     println!("cargo:rustc-link-search=native={}", folder.display());
     println!("cargo:rustc-link-lib=static=khalixoshi");
 }
 
-fn folder() -> PathBuf {
-    let here = PathBuf::from(env::var_os("CARGO_MANIFEST_DIR").unwrap_or_default());
-    match env::var_os(FOLDER) {
-        Some(folder) => PathBuf::from(folder),
-        None => here.join("../../target/staticlib"),
+/// The folder of the library that the kit builds.
+fn shipped() -> PathBuf {
+    if set_by_cargo("CARGO_CFG_TARGET_ARCH") != "x86_64"
+        || set_by_cargo("CARGO_CFG_TARGET_OS") != "linux"
+    {
+        refuse(
+            "libkhalixoshi.a is for x86-64 Linux: build for the target x86_64-unknown-linux-gnu \
+             (tools/host does so on every processor).",
+        );
     }
+    PathBuf::from(set_by_cargo("CARGO_MANIFEST_DIR")).join("../../target/staticlib")
+}
+
+fn set_by_cargo(name: &str) -> String {
+    env::var(name).unwrap_or_default()
+}
+
+fn refuse(why: &str) -> ! {
+    eprintln!("{why}");
+    process::exit(1)
 }

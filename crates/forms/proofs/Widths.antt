@@ -53,10 +53,10 @@ unfolding ones
 ones-zero = refl
 
 -- the last of four digits, and the digit before it
-half-four : (f : ℕ) → f / 2 / 2 ≡ f / 4
+pub half-four : (f : ℕ) → f / 2 / 2 ≡ f / 4
 half-four f = omega arith
 
-half-eight : (f : ℕ) → f / 4 / 2 ≡ f / 8
+pub half-eight : (f : ℕ) → f / 4 / 2 ≡ f / 8
 half-eight f = omega arith
 
 half-last : (f : ℕ) → f < 16 → f / 8 / 2 ≡ 0

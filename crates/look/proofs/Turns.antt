@@ -21,7 +21,8 @@ use Rattle.isa.specs.Decode.{Reading, numberIn}
 use Rattle.isa.specs.declared.Instruction.{Instruction}
 use Rattle.isa.specs.declared.Route.the-variants.{Jump, JumpIf, JumpIfNot}
 use Rattle.paths.specs.Paths.{bad}
-use Rattle.look.specs.Look.{onWay, lookAt, lookNumbered, lookOf}
+use Rattle.look.specs.Look.{onWay, lookAt, lookOf}
+use Rattle.look.specs.Numbered.{lookNumbered}
 use Rattle.look.proofs.Readings.{Says, look-given, read-shape, look-cut, read-whole}
 use Rattle.look.proofs.Rows.{notShift, not-shift}
 

@@ -1,3 +1,4 @@
 -- The definitions of `look`.
 pub mod Look
+pub mod Numbered
 pub mod Wrong

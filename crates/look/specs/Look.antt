@@ -1,14 +1,12 @@
 -- What an instruction leads to at a depth: decode, stack check and way, as in a step.
-use Prim.Native.Nat.{ℕ, _+_, _-_}
+use Prim.Native.Nat.{ℕ, _+_}
 use mathlib.Core.Path.{_≡_}
 use mathlib.Core.Logic.{_≢_}
 use mathlib.Core.Bool.{Bool, true, false}
 use mathlib.Core.List.{List, [], _∷_}
-use lib.Dec.{ltb, eqb}
-use lib.ListN.{length}
+use lib.Dec.{eqb}
 use Rattle.basis.specs.Pick.{pick}
 use Rattle.basis.specs.Answer.{Answer, given, refused}
-use Rattle.basis.specs.Number.{numberAt}
 use Rattle.forms.specs.Form.{formOf, codeOf}
 use Rattle.forms.specs.declared.Form.the-variants.{Shift}
 use Rattle.isa.specs.Op.{Op, opOf}
@@ -54,12 +52,6 @@ onWay next w depth = pick (isNine w) (bad 9) (onDepth next w depth)
 -- an operation whose next instruction is at next, met at depth d
 abbrev pub lookAt : ℕ → ℕ → ℕ → Op → Outcome
 lookAt cells next d o = onWay next (wayOf o) (depthAfter cells d (takenOf o) (pushedOf o))
-
--- an operation with a number of so many bytes after its first, at the address a of a program: 3 where it is cut short
-unfoldable pub lookNumbered : List ℕ → ℕ → ℕ → ℕ → ℕ → (ℕ → Op) → Outcome
-lookNumbered program cells a d width op =
-    pick (ltb (length program - a) (1 + width)) (bad 3)
-    (lookAt cells (a + 1 + width) d (op (numberAt width program (a + 1))))
 
 abbrev pub onReading : ℕ → ℕ → ℕ → Answer Reading → Outcome
 onReading cells a d (refused k) = bad k

@@ -1,27 +1,41 @@
--- Values pushed one after the other, and the width of a value that is there.
+-- Values pushed one after the other: one step, the number of their bytes, and that they are those of the instruction.
 -- Assumes nothing.
-use Prim.Native.Nat.{ℕ, suc, _+_, _-_, _%_, _<_}
+use Prim.Native.Nat.{ℕ, zero, suc, _+_, _-_, _/_, _%_, _^_, _<_, _≤_}
 use native.Mathlib.Omega.{arith}
-use native.Mathlib.Nat.{add-zero}
-use mathlib.Core.Path.{_≡_, ap, _∙_}
-use mathlib.Core.List.{List, [], _∷_, _++_}
-use lib.ListN.{length, set}
-use borrow.Author.Tests.{lt-ltb}
+use native.Mathlib.Nat.{pow-suc}
+use mathlib.Core.Path.{_≡_, refl}
+use mathlib.Core.List.{List, [], _∷_}
+use lib.Count.{ones, ones-step, ones-le}
+use Rattle.basis.specs.Number.{numberAt}
 use Rattle.forms.specs.Form.{valueWidth}
+use Rattle.forms.proofs.Widths.{half-four, half-eight}
 use Rattle.effects.specs.Memory.{pushed}
+use Rattle.pushes.specs.Values.{valuesAt, valuesFrom, bytesIn}
 
-pushed-append : (xs ys k : List ℕ) (d : ℕ) → pushed (pushed k d xs) (d + length xs) ys ≡ pushed k d (xs ++ ys)
-pushed-append [] ys k d = rw add-zero
-pushed-append (x ∷ xs) ys k d =
-    let e : d + suc (length xs) ≡ d + 1 + length xs = omega arith in
-    rw e (pushed-append xs ys (set k (length k - (d + 1)) x) (d + 1))
+-- one value, and the others
+pub bytes-step : (left rest : ℕ) → 0 < left → bytesIn left rest ≡ 1 + rest % 2 + bytesIn (left - 1) (rest / 2)
+bytes-step zero rest h = omega arith
+bytes-step (suc n) rest h = let e : suc n - 1 ≡ n = omega arith in rw e
 
--- the cells k₁ after some values, and then k₂ after one more
-pub one-more :
-    (k : List ℕ) (d : ℕ) (xs : List ℕ) (v : ℕ) {k₁ k₂ : List ℕ} → k₁ ≡ pushed k d xs → k₂ ≡ pushed k₁ (d + length xs) (v ∷ []) → k₂ ≡ pushed k d (xs ++ (v ∷ []))
-one-more k d xs v e f = f ∙ ap (λ (l : List ℕ). pushed l (d + length xs) (v ∷ [])) e ∙ pushed-append xs (v ∷ []) k d
+pub push-step :
+    (left rest place d : ℕ) → 0 < left → (s k : List ℕ) {k₁ e : List ℕ} → k₁ ≡ pushed k d (numberAt (1 + rest % 2) s place ∷ [])
+    → pushed k d (valuesFrom left rest s place) ≡ e → pushed k₁ (d + 1) (valuesFrom (left - 1) (rest / 2) s (place + (1 + rest % 2))) ≡ e
+push-step zero rest place d h s k p q = absurd (omega arith)
+push-step (suc n) rest place d h s k p q = let e : suc n - 1 ≡ n = omega arith in rw (e, p) q
 
--- "0 = one byte, 1 = two"
-pub value-there : (n count flags : ℕ) → n < count → valueWidth n count flags ≡ 1 + flags % 2
+-- "one, plus the count, plus the number of set flags", but for the one
+pub bytes-ones : (count flags : ℕ) → flags < 2 ^ count → bytesIn count flags ≡ count + ones flags
+bytes-ones zero flags h = omega (arith, ones-le 0 flags h)
+bytes-ones (suc n) flags h =
+    let k = rw pow-suc at h in
+    omega (arith, ones-step flags, bytes-ones n (flags / 2) (omega arith))
+
+-- at most four values are those of the instruction
+pub values-four : (count flags : ℕ) → count ≤ 4 → (s : List ℕ) (at : ℕ) → valuesFrom count flags s at ≡ valuesAt count flags s at
 unfolding valueWidth
-value-there n count flags h = rw (lt-ltb n count h)
+values-four zero flags h s at = refl
+values-four (suc zero) flags h s at = refl
+values-four (suc (suc zero)) flags h s at = refl
+values-four (suc (suc (suc zero))) flags h s at = rw (half-four flags)
+values-four (suc (suc (suc (suc zero)))) flags h s at = rw (half-four flags, half-eight flags)
+values-four (suc (suc (suc (suc (suc n))))) flags h s at = absurd (omega arith)

@@ -4,47 +4,59 @@ ghost use mathlib.Core.List.{List, [], _∷_};
 ghost use Prim.Native.Nat.{ℕ, _+_, _≤_, _<_};
 ghost use lib.ListN.{length};
 ghost use Rattle.basis.specs.Number.{numberAt};
-ghost use Rattle.forms.specs.Form.{width0, width1, width2, width3};
 ghost use Rattle.isa.specs.Refusals.{Inside};
 ghost use Rattle.effects.specs.Memory.{pushed};
 ghost use Rattle.effects.specs.Act.{done, actOf};
-ghost use Rattle.pushes.specs.Values.{valuesAt};
+ghost use Rattle.pushes.specs.Values.{valuesFrom, bytesIn};
 use effects::Move;
 
-// Pushes the number in the `width` bytes of the program from `at`.
-fn push_number(width: usize, program: &[u8], at: usize, depth: usize, cells: &mut [u16])
+// Pushes the number in the `width` bytes of the program from `at`; the place after them.
+fn push_number(width: usize, program: &[u8], at: usize, depth: usize, cells: &mut [u16]) -> usize
     requires { ⌜ (width ≤ 2) × (at + width ≤ length (now program)) × (depth < length (now cells)) ⌝ }
+    ensures { λ r. ⌜ r ≡ at + width ⌝ }
     ensures { λ _. ⌜ now (cells .exit) ≡ pushed (now (cells .entry)) depth (numberAt width (now (program .entry)) at ∷ []) ⌝ }
 {
     let i = cells.len() - (depth + 1);
     cells[i] = basis::number_at(width, program, at);
+    at + width
 }
 
-// Pushes the `count` values that begin at `at`, one to four, each of one byte or, by its flag, of two.
-fn push_all(count: u8, flags: u8, program: &[u8], at: usize, depth: usize, cells: &mut [u16])
-    requires { ⌜ (0 < count) × (count ≤ 4) × (at + (width0 count flags + width1 count flags + width2 count flags + width3 count flags) ≤ length (now program)) × (depth + count ≤ length (now cells)) ⌝ }
-    ensures { λ _. ⌜ now (cells .exit) ≡ pushed (now (cells .entry)) depth (valuesAt count flags (now (program .entry)) at) ⌝ }
+// Pushes a number of one byte or, where its flag is 1, of two; the place after it.
+fn push_value(flag: u8, program: &[u8], at: usize, depth: usize, cells: &mut [u16]) -> usize
+    requires { ⌜ (flag ≤ 1) × (at + (1 + flag) ≤ length (now program)) × (depth < length (now cells)) ⌝ }
+    ensures { λ r. ⌜ r ≡ at + (1 + flag) ⌝ }
+    ensures { λ _. ⌜ now (cells .exit) ≡ pushed (now (cells .entry)) depth (numberAt (1 + flag) (now (program .entry)) at ∷ []) ⌝ }
 {
-    let w0 = 1 + (flags % 2) as usize;
-    push_number(w0, program, at, depth, cells);
-    if count == 1 {
-        return;
+    if flag == 0 {
+        return push_number(1, program, at, depth, cells);
     }
-    let a1 = at + w0;
-    let w1 = 1 + (flags / 2 % 2) as usize;
-    push_number(w1, program, a1, depth + 1, cells);
-    if count == 2 {
-        return;
+    push_number(2, program, at, depth, cells)
+}
+
+// Pushes the `count` values that begin at `at`, one after the other, each of one byte or, by its flag, of two; the place after them.
+fn push_all(
+    count: u8,
+    flags: u8,
+    program: &[u8],
+    at: usize,
+    depth: usize,
+    cells: &mut [u16],
+) -> usize
+    requires { ⌜ (at + bytesIn count flags ≤ length (now program)) × (depth + count ≤ length (now cells)) ⌝ }
+    ensures { λ r. ⌜ r ≡ at + bytesIn count flags ⌝ }
+    ensures { λ _. ⌜ now (cells .exit) ≡ pushed (now (cells .entry)) depth (valuesFrom count flags (now (program .entry)) at) ⌝ }
+{
+    let mut left = count;
+    let mut rest = flags;
+    let mut place = at;
+    let mut top = depth;
+    while 0 < left {
+        place = push_value(rest % 2, program, place, top, cells);
+        top += 1;
+        rest = rest / 2;
+        left -= 1;
     }
-    let a2 = a1 + w1;
-    let w2 = 1 + (flags / 4 % 2) as usize;
-    push_number(w2, program, a2, depth + 2, cells);
-    if count == 3 {
-        return;
-    }
-    let a3 = a2 + w2;
-    let w3 = 1 + (flags / 8 % 2) as usize;
-    push_number(w3, program, a3, depth + 3, cells);
+    place
 }
 
 // Pushes the values of the instruction at `address`, whose first byte is C0 to FF; the last value ends on top.
@@ -70,6 +82,7 @@ pub fn push_values(
     if cells.len() - depth < count as usize {
         return Move::Fault(5, 0);
     }
-    push_all(count, flags, program, address + 1, depth, cells);
-    Move::To(end, depth + count as usize)
+    // it is `end`, but a processor that foresees the branches need not wait for the flags to be counted
+    let next = push_all(count, flags, program, address + 1, depth, cells);
+    Move::To(next, depth + count as usize)
 }

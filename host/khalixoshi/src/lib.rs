@@ -39,12 +39,6 @@
 #![deny(unsafe_code)]
 #![warn(missing_docs)]
 
-#[cfg(not(all(target_arch = "x86_64", target_os = "linux")))]
-compile_error!(
-    "libkhalixoshi.a is for x86-64 Linux: build for the target x86_64-unknown-linux-gnu \
-     (tools/host does so on every processor)"
-);
-
 #[allow(unsafe_code)]
 mod c;
 mod error;

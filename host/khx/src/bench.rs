@@ -132,14 +132,9 @@ fn time(wanted: Wanted) -> Vec<Finding> {
 
 /// The processor and the C compiler.
 fn machine() -> String {
-    let emulated = match processor::emulator() {
-        Some(emulator) => format!(
-            "This is the emulator {emulator}: its ratios say little about a real processor.\n"
-        ),
-        None => String::new(),
-    };
+    let remark = processor::remark().map_or(String::new(), |remark| remark + "\n");
     format!(
-        "libkhalixoshi.a against plain careful C with the same checks\nprocessor: {}\n{emulated}C compiler: {}, -O2\n",
+        "libkhalixoshi.a against plain careful C with the same checks\nprocessor: {}\n{remark}C compiler: {}, -O2\n",
         processor::name(),
         peer::COMPILER
     )

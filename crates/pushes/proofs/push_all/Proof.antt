@@ -1,159 +1,75 @@
--- `pushes::push_all` meets its contract: each call pushes one value more, and at a known count the values of the contract are those pushed.
+-- `pushes::push_all` meets its contract: what is pushed already, and the values that are left, make all of them.
 -- Assumes nothing.
-use Prim.Native.Nat.{ℕ, _/_}
+use Prim.Native.Nat.{_+_, _≤_}
 use native.Mathlib.Omega.{arith}
-use mathlib.Core.Path.{_≡_}
-use mathlib.Core.List.{List}
+use mathlib.Core.Path.{_≡_, refl, ap, _∙_}
+use lib.ListN.{length, length-set}
 use denote.Ref.{now}
-use borrow.Author.Needs.{needs}
-use Rattle.forms.specs.Form.{valueWidth}
-use Rattle.pushes.proofs.Pushed.{value-there, one-more}
-use Rattle.pushes.specs.Values.{valuesAt}
+use Rattle.effects.specs.Memory.{pushed}
+use Rattle.pushes.specs.Values.{valuesFrom, bytesIn}
+use Rattle.pushes.proofs.Pushed.{bytes-step, push-step}
 use Rattle.pushes.proofs.push_all.Statement.{statement}
 use Rattle.pushes.proofs.push_all.Tie as tie
 
-cast-w0 : tie.Need-cast-w0
-cast-w0 c = search needs
+abbrev Inv-loop : tie.InvT-loop
+Inv-loop count flags program at depth cells₀ left₀ rest₀ place₀ top₀ cells left rest place top =
+    (place + bytesIn left rest ≡ at + bytesIn count flags)
+    × (top + left ≤ length cells)
+    × (length cells ≡ length cells₀)
+    × (pushed cells top (valuesFrom left rest program place) ≡ pushed cells₀ depth (valuesFrom count flags program at))
 
-add-w0 : tie.Need-add-w0
-add-w0 c = search needs
+abbrev μ-loop : tie.MeasureT-loop
+μ-loop count flags program at depth cells₀ left₀ rest₀ place₀ top₀ cells left rest place top = left
 
-push-number-requires : tie.Need-push-number-requires
-push-number-requires c κs =
-    let a = c .before .before .before .args in
-    (omega arith, omega (arith, value-there 0 (a .count) (a .flags) (omega arith)), omega arith)
+loop-holds : tie.Need-loop-holds Inv-loop μ-loop
+loop-holds c = (refl, omega arith, refl, refl)
 
-same-length : tie.Need-same-length
-same-length c = search needs
+push-value-requires : tie.Need-push-value-requires Inv-loop μ-loop
+push-value-requires c κs =
+    let l = c .before .before .loop in
+    (omega arith, omega (arith, bytes-step (l .left) (l .rest) (omega arith)), omega arith)
 
-returns : tie.Need-returns
-unfolding valueWidth
-returns c = rw (c .if1 .taken) (c .before .before .before .push-number .ensures)
+add-top : tie.Need-add-top Inv-loop μ-loop
+add-top c = omega arith
 
-add-a1 : tie.Need-add-a1
-add-a1 c = search needs
+sub-left : tie.Need-sub-left Inv-loop μ-loop
+sub-left c = omega arith
 
-cast-w1 : tie.Need-cast-w1
-cast-w1 c = search needs
+loop-less : tie.Need-loop-less Inv-loop μ-loop
+loop-less c = omega arith
 
-add-w1 : tie.Need-add-w1
-add-w1 c = search needs
-
-add-push-number : tie.Need-add-push-number
-add-push-number c = search needs
-
-push-number-requires-2 : tie.Need-push-number-requires-2
-push-number-requires-2 c κs =
-    let a = c .before .before .before .before .before .before .before .before .args in (
+loop-again : tie.Need-loop-again Inv-loop μ-loop
+loop-again c =
+    let l = c .before .before .before .before .before .loop in
+    let p = now (c .before .before .before .before .before .before .before .before .args .program) in
+    let e = c .before .before .push-value .ensures in
+    let n = ap length (e .1) ∙ length-set (l .cells) _ _ in (
+      omega (arith, e .0, bytes-step (l .left) (l .rest) (omega arith)),
       omega arith,
-      omega (arith, value-there 0 (a .count) (a .flags) (omega arith), value-there 1 (a .count) (a .flags / 2) (omega arith)),
-      omega arith,
+      n ∙ l .inv .2,
+      rw (e .0) (push-step (l .left) (l .rest) (l .place) (l .top) (omega arith) p (l .cells) (e .1) (l .inv .3)),
     )
 
-same-length-2 : tie.Need-same-length-2
-same-length-2 c = search needs
+same-length : tie.Need-same-length Inv-loop μ-loop
+same-length c = c .before .loop .inv .2
 
-returns-2 : tie.Need-returns-2
-unfolding valueWidth
-returns-2 c =
-    let a = c .before .before .before .before .before .before .before .before .before .before .before .before .args in
-    let k = now (a .cells) in
-    let v : ℕ → List ℕ = λ n. valuesAt n (a .flags) (now (a .program)) (a .at) in
-    rw (c .if2 .taken) (one-more k (a .depth) (v 1) _ (c .before .before .before .before .before .before .before .before .push-number .ensures) (c .before .before .before .push-number2 .ensures))
-
-add-a2 : tie.Need-add-a2
-add-a2 c = search needs
-
-cast-w2 : tie.Need-cast-w2
-cast-w2 c = search needs
-
-add-w2 : tie.Need-add-w2
-add-w2 c = search needs
-
-add-push-number-2 : tie.Need-add-push-number-2
-add-push-number-2 c = search needs
-
-push-number-requires-3 : tie.Need-push-number-requires-3
-push-number-requires-3 c κs =
-    let a = c .before .before .before .before .before .before .before .before .before .before .before .before .before .args in (
-      omega arith,
-      omega (arith, value-there 0 (a .count) (a .flags) (omega arith), value-there 1 (a .count) (a .flags / 2) (omega arith), value-there 2 (a .count) (a .flags / 4) (omega arith)),
-      omega arith,
-    )
-
-same-length-3 : tie.Need-same-length-3
-same-length-3 c = search needs
-
-returns-3 : tie.Need-returns-3
-unfolding valueWidth
-returns-3 c =
-    let a = c .before .before .before .before .before .before .before .before .before .before .before .before .before .before .before .before .before .args in
-    let k = now (a .cells) in
-    let v : ℕ → List ℕ = λ n. valuesAt n (a .flags) (now (a .program)) (a .at) in
-    let e = one-more k (a .depth) (v 1) _ (c .before .before .before .before .before .before .before .before .before .before .before .before .before .push-number .ensures) (c .before .before .before .before .before .before .before .before .push-number2 .ensures) in
-    rw (c .if3 .taken) (one-more k (a .depth) (v 2) _ e (c .before .before .before .push-number3 .ensures))
-
-add-a3 : tie.Need-add-a3
-add-a3 c = search needs
-
-cast-w3 : tie.Need-cast-w3
-cast-w3 c = search needs
-
-add-w3 : tie.Need-add-w3
-add-w3 c = search needs
-
-add-push-number-3 : tie.Need-add-push-number-3
-add-push-number-3 c = search needs
-
-push-number-requires-4 : tie.Need-push-number-requires-4
-push-number-requires-4 c κs =
-    let a = c .before .before .before .before .before .before .before .before .before .before .before .before .before .before .before .before .before .before .args in (
-      omega arith,
-      omega (arith, value-there 0 (a .count) (a .flags) (omega arith), value-there 1 (a .count) (a .flags / 2) (omega arith), value-there 2 (a .count) (a .flags / 4) (omega arith), value-there 3 (a .count) (a .flags / 8) (omega arith)),
-      omega arith,
-    )
-
-same-length-4 : tie.Need-same-length-4
-same-length-4 c = search needs
-
-returns-4 : tie.Need-returns-4
-unfolding valueWidth
-returns-4 c =
-    let a = c .before .before .before .before .before .before .before .before .before .before .before .before .before .before .before .before .before .before .before .before .before .args in
-    let k = now (a .cells) in
-    let v : ℕ → List ℕ = λ n. valuesAt n (a .flags) (now (a .program)) (a .at) in
-    let h : a .count ≡ 4 = omega arith in
-    let e = one-more k (a .depth) (v 1) _ (c .before .before .before .before .before .before .before .before .before .before .before .before .before .before .before .before .before .push-number .ensures) (c .before .before .before .before .before .before .before .before .before .before .before .before .push-number2 .ensures) in
-    let f = one-more k (a .depth) (v 2) _ e (c .before .before .before .before .before .before .before .push-number3 .ensures) in
-    rw h (one-more k (a .depth) (v 3) _ f (c .before .before .push-number4 .ensures))
+returns : tie.Need-returns Inv-loop μ-loop
+returns c =
+    let z : c .before .loop .left ≡ 0 = omega arith in
+    let h = rw z at (c .before .loop .inv) in
+    (omega (arith, h .0), h .3)
 
 pub push-all-spec : {M : Type 1} → statement M
 push-all-spec =
     tie.close
     (tie.spec
-    cast-w0
-    add-w0
-    push-number-requires
+    Inv-loop
+    μ-loop
+    loop-holds
+    push-value-requires
+    add-top
+    sub-left
+    loop-less
+    loop-again
     same-length
-    returns
-    add-a1
-    cast-w1
-    add-w1
-    add-push-number
-    push-number-requires-2
-    same-length-2
-    returns-2
-    add-a2
-    cast-w2
-    add-w2
-    add-push-number-2
-    push-number-requires-3
-    same-length-3
-    returns-3
-    add-a3
-    cast-w3
-    add-w3
-    add-push-number-3
-    push-number-requires-4
-    same-length-4
-    returns-4)
+    returns)

@@ -1,14 +1,15 @@
 -- `pushes::push_values` meets its contract: each return is one law of proofs/Values.antt, and what `push_all` asks of the program follows from
--- the law that the widths of the values make their count and the number of set flags.
+-- the law that the bytes of the values are as many as their count and the number of set flags.
 -- Assumes nothing.
+use Prim.Native.Nat.{_+_}
 use native.Mathlib.Omega.{arith}
-use mathlib.Core.Path.{sym}
-use lib.Count.{ones-le}
+use mathlib.Core.Path.{_≡_, sym}
+use lib.Count.{ones, ones-le}
 use denote.Ref.{now}
 use borrow.Author.Needs.{needs}
 use Rattle.forms.specs.Form.{countIn, flagsIn}
 use Rattle.forms.specs.declared.Form.the-variants.{Values}
-use Rattle.forms.proofs.Widths.{widths-sum}
+use Rattle.pushes.proofs.Pushed.{bytes-ones, values-four}
 use Rattle.pushes.proofs.Values.{none-past, values-illegal, values-cut, values-full, values-done}
 use Rattle.pushes.proofs.push_values.Statement.{statement}
 use Rattle.pushes.proofs.push_values.Tie as tie
@@ -62,13 +63,13 @@ push-all-requires : tie.Need-push-all-requires
 push-all-requires c κs =
     let a = c .before .before .before .before .before .before .args in
     let f = none-past (flagsIn Values (a .first)) (countIn Values (a .first)) (c .before .before .before .if1 .left) in
-    (omega arith, omega arith, omega (arith, widths-sum (countIn Values (a .first)) (flagsIn Values (a .first)) (omega arith) f), omega arith)
+    (omega (arith, bytes-ones (countIn Values (a .first)) (flagsIn Values (a .first)) f), omega arith)
 
-cast-t15 : tie.Need-cast-t15
-cast-t15 c = search needs
+cast-t16 : tie.Need-cast-t16
+cast-t16 c = search needs
 
-add-t13 : tie.Need-add-t13
-add-t13 c = search needs
+add-t14 : tie.Need-add-t14
+add-t14 c = search needs
 
 same-length : tie.Need-same-length
 same-length c = search needs
@@ -76,9 +77,15 @@ same-length c = search needs
 returns-4 : tie.Need-returns-4
 returns-4 c =
     let s = c .before .before .before .before .before .before .before .before .before in
+    let f = c .before .before .before .before .before .before .if1 .left in
+    let count = countIn Values (s .args .first) in
+    let flags = flagsIn Values (s .args .first) in
+    let e = c .before .before .push-all .ensures in
+    let next : c .before .before .push-all .result ≡ s .args .address + 1 + count + ones flags =
+    omega (arith, e .0, bytes-ones count flags (none-past flags count f)) in
     λ m.
-    rw (c .before .before .push-all .ensures)
-    (sym (values-done (s .pre .0) (s .pre .1) (s .args .depth) m (now (s .args .cells)) (c .before .before .before .before .before .before .if1 .left) (c .before .before .before .before .before .if2 .left) (omega arith)))
+    rw (next, e .1, values-four count flags (omega arith) (now (s .args .program)) (s .args .address + 1))
+    (sym (values-done (s .pre .0) (s .pre .1) (s .args .depth) m (now (s .args .cells)) f (c .before .before .before .before .before .if2 .left) (omega arith)))
 
 pub push-values-spec : {M : Type 1} → statement M
 push-values-spec =
@@ -98,7 +105,7 @@ push-values-spec =
     returns-3
     add-push-all
     push-all-requires
-    cast-t15
-    add-t13
+    cast-t16
+    add-t14
     same-length
     returns-4)

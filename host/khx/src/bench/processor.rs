@@ -1,53 +1,11 @@
-//! Which processor this is, and whether it is an emulated one, by its own word.
+//! Which processor this is, and what its kind means for the figures.
 
-use std::arch::x86_64::{__cpuid, CpuidResult};
+#[cfg(not(target_arch = "x86_64"))]
+mod other;
+#[cfg(target_arch = "x86_64")]
+mod x86_64;
 
-/// The brand that the processor gives itself.
-pub fn name() -> String {
-    if leaf(0x8000_0000).eax < 0x8000_0004 {
-        return "x86-64 without a name".to_string();
-    }
-    let brand: Vec<u8> = (0x8000_0002..=0x8000_0004)
-        .flat_map(|number| bytes(leaf(number)))
-        .collect();
-    text(&brand)
-}
-
-/// The name of the emulator: the brand or the signature is that of one that is known.
-pub fn emulator() -> Option<&'static str> {
-    let told = format!("{} {}", name(), signature());
-    let known = [
-        ("TCG", "qemu"),
-        ("FEXIFEXIEMU", "FEX"),
-        ("Box64", "Box64"),
-        ("VirtualApple", "Rosetta"),
-    ];
-    let found = known.iter().find(|(mark, _)| told.contains(mark));
-    found.map(|&(_, emulator)| emulator)
-}
-
-/// What stands above a virtual processor signs with these bytes.
-fn signature() -> String {
-    let hypervisor = leaf(1).ecx >> 31 & 1 == 1;
-    if !hypervisor {
-        return String::new();
-    }
-    text(&bytes(leaf(0x4000_0000))[4..])
-}
-
-#[allow(unused_unsafe)] // newer compilers call it safe
-fn leaf(number: u32) -> CpuidResult {
-    // SAFETY: every x86-64 processor has the instruction.
-    unsafe { __cpuid(number) }
-}
-
-fn bytes(leaf: CpuidResult) -> Vec<u8> {
-    let numbers = [leaf.eax, leaf.ebx, leaf.ecx, leaf.edx];
-    numbers.iter().flat_map(|n| n.to_le_bytes()).collect()
-}
-
-fn text(bytes: &[u8]) -> String {
-    let text = String::from_utf8_lossy(bytes);
-    text.trim_matches(|c: char| c == '\0' || c.is_whitespace())
-        .to_string()
-}
+#[cfg(not(target_arch = "x86_64"))]
+pub use other::{name, remark};
+#[cfg(target_arch = "x86_64")]
+pub use x86_64::{name, remark};
