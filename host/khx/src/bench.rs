@@ -18,8 +18,9 @@ use findings::Finding;
 const HELP: &str = "\
 usage: khx bench [--seconds N] [CASE..]
 
-Times the proved library against plain careful C that does the same checks, and
-says whether the targets are met. Without a CASE, all of them.
+Times the proved library against plain careful C that does the same checks, by gcc
+-O2, gcc -O3 and, where it was installed when khx was built, clang -O3: the fastest of
+them is the yardstick. Says whether the targets are met. Without a CASE, all of them.
 
   --seconds N   how long to time, all cases together (default 10)
 
@@ -32,7 +33,7 @@ Before timing, all sides gave the same answers and left the same memories.
 Buffers are cleared first: each timed part starts from the same data, cells and map,
 laid out anew outside the timed part. The sides take turns in one process, in
 alternating order; a time is the least of all rounds.
-A ratio is C's time by ours: over 1, ours is faster.
+A ratio is C's time by ours: over 1, ours is faster. C's time is that of its fastest build.
 ";
 
 /// The seconds, and the cases that are asked for.
@@ -109,9 +110,10 @@ fn bench(mut wanted: Wanted) -> Result<String, Failure> {
     }
     let findings = time(wanted);
     Ok(format!(
-        "{}{CONDITIONS}\n{}\n{}",
+        "{}{CONDITIONS}\n{}\n{}\n{}",
         machine(),
         findings::table(&findings),
+        findings::by_build(&findings),
         findings::targets(&findings)
     ))
 }
@@ -130,13 +132,16 @@ fn time(wanted: Wanted) -> Vec<Finding> {
     findings
 }
 
-/// The processor and the C compiler.
+/// The processor and the C compilers.
 fn machine() -> String {
     let remark = processor::remark().map_or(String::new(), |remark| remark + "\n");
+    let builds: String = peer::BUILDS
+        .iter()
+        .map(|build| format!("C by {}: {}\n", build.name, build.version))
+        .collect();
     format!(
-        "libkhalixoshi.a against plain careful C with the same checks\nprocessor: {}\n{remark}C compiler: {}, -O2\n",
-        processor::name(),
-        peer::COMPILER
+        "libkhalixoshi.a against plain careful C with the same checks\nprocessor: {}\n{remark}{builds}",
+        processor::name()
     )
 }
 

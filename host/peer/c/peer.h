@@ -1,6 +1,6 @@
 /*
  * Plain careful C to measure the proved library against: the same rules with every check, written for reading and for
- * gcc -O2. Nothing else uses it. A refusal is a number, 0 for none.
+ * a compiler that optimises. Nothing else uses it. A refusal is a number, 0 for none.
  */
 #ifndef PEER_H
 #define PEER_H

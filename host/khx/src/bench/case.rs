@@ -1,14 +1,38 @@
 //! What is timed: a piece of work that more than one side can do.
 
+use std::fmt;
+
 /// Who does the work.
 #[derive(Clone, Copy, Debug, PartialEq, Eq)]
 pub enum Side {
     /// The proved library.
     Proved,
-    /// C; of its two verifiers the one with a bitmap.
-    C,
-    /// C's verifier with a cursor.
-    Cursor,
+    /// A build of the C; of its two verifiers the one with a bitmap.
+    C(usize),
+    /// A build of C's verifier with a cursor.
+    Cursor(usize),
+}
+
+impl fmt::Display for Side {
+    fn fmt(&self, f: &mut fmt::Formatter<'_>) -> fmt::Result {
+        match *self {
+            Side::Proved => write!(f, "the proved library"),
+            Side::C(build) => write!(f, "C by {}", peer::BUILDS[build].name),
+            Side::Cursor(build) => write!(f, "C, cursor, by {}", peer::BUILDS[build].name),
+        }
+    }
+}
+
+/// The proved library, and C by each of its builds.
+pub fn both() -> Vec<Side> {
+    let builds = (0..peer::BUILDS.len()).map(Side::C);
+    std::iter::once(Side::Proved).chain(builds).collect()
+}
+
+/// The same, and C's verifier with a cursor by each build.
+pub fn all_verifiers() -> Vec<Side> {
+    let cursors = (0..peer::BUILDS.len()).map(Side::Cursor);
+    both().into_iter().chain(cursors).collect()
 }
 
 /// The numbers that a call gives.
@@ -47,7 +71,7 @@ pub enum Unit {
 pub struct Case {
     pub name: &'static str,
     pub about: &'static str,
-    pub sides: &'static [Side],
+    pub sides: Vec<Side>,
     pub unit: Unit,
     pub work: Box<dyn Work>,
 }
@@ -56,10 +80,10 @@ impl Case {
     /// An error where two sides give different answers or leave different memories.
     pub fn agree(&mut self) -> Result<(), String> {
         let ours = self.outcome(Side::Proved);
-        for &side in self.sides {
+        for side in self.sides.clone() {
             if self.outcome(side) != ours {
                 return Err(format!(
-                    "{}: {side:?} and the proved library differ",
+                    "{}: {side} and the proved library differ",
                     self.name
                 ));
             }
@@ -84,7 +108,7 @@ impl Case {
 mod tests {
     use super::*;
 
-    /// Work in which C differs in one number, or leaves another memory.
+    /// Work in which one build of C differs in one number, or leaves another memory.
     struct Unlike {
         answer: u32,
         memory: u8,
@@ -97,7 +121,7 @@ mod tests {
         }
 
         fn call(&mut self, side: Side) -> Answer {
-            if side == Side::Proved {
+            if side != Side::C(1) {
                 return [0; 5];
             }
             self.left = self.memory;
@@ -114,7 +138,7 @@ mod tests {
         let mut case = Case {
             name: "unlike",
             about: "",
-            sides: &[Side::Proved, Side::C],
+            sides: both(),
             unit: Unit::Call,
             work: Box::new(Unlike {
                 answer,
@@ -128,7 +152,7 @@ mod tests {
     #[test]
     fn a_difference_is_noticed() {
         assert_eq!(agree(0, 0), Ok(()));
-        let told = Err("unlike: C and the proved library differ".to_string());
+        let told = Err("unlike: C by gcc -O3 and the proved library differ".to_string());
         assert_eq!(agree(1, 0), told);
         assert_eq!(agree(0, 1), told);
     }

@@ -2,7 +2,7 @@
 
 use khalixoshi::{pack, State, Status, CELLS_MAX, PACK_MAX, UNMET};
 
-use super::case::{Answer, Case, Side, Unit, Work};
+use super::case::{self, Answer, Case, Side, Unit, Work};
 use super::programs;
 
 /// All cases, in the order in which they are timed.
@@ -51,7 +51,7 @@ pub fn all() -> Vec<Case> {
         Case {
             name: "pack-check",
             about: "pack check: 24 KB, 64 entries",
-            sides: &[Side::Proved, Side::C],
+            sides: case::both(),
             unit: Unit::Call,
             work: Box::new(PackCheck { pack: full_pack() }),
         },
@@ -63,7 +63,7 @@ fn run(name: &'static str, about: &'static str, mut work: Run) -> Case {
     Case {
         name,
         about,
-        sides: &[Side::Proved, Side::C],
+        sides: case::both(),
         unit: Unit::Step(steps),
         work: Box::new(work),
     }
@@ -76,7 +76,7 @@ fn verify(name: &'static str, about: &'static str, program: Vec<u8>) -> Case {
     Case {
         name,
         about,
-        sides: &[Side::Proved, Side::C, Side::Cursor],
+        sides: case::all_verifiers(),
         unit: Unit::Instructions(met as u32),
         work: Box::new(work),
     }
@@ -114,14 +114,14 @@ impl Run {
         }
     }
 
-    fn c(&mut self) -> Answer {
+    fn c(&mut self, build: usize) -> Answer {
         let fresh = peer::State {
             address: 0,
             depth: 0,
             status: peer::RUNNING,
         };
         let (data, cells) = (&mut self.data, &mut self.cells);
-        let ran = peer::run(fresh, &self.program, data, cells, u32::MAX);
+        let ran = peer::BUILDS[build].run(fresh, &self.program, data, cells, u32::MAX);
         let state = ran.state;
         [
             ran.refusal,
@@ -151,7 +151,7 @@ impl Work for Run {
     fn call(&mut self, side: Side) -> Answer {
         match side {
             Side::Proved => self.proved(),
-            Side::C | Side::Cursor => self.c(),
+            Side::C(build) | Side::Cursor(build) => self.c(build),
         }
     }
 
@@ -200,8 +200,13 @@ impl Work for Verify {
     fn call(&mut self, side: Side) -> Answer {
         let said = match side {
             Side::Proved => return self.proved(),
-            Side::C => peer::verify_bitmap(&self.program, CELLS_MAX, &mut self.map),
-            Side::Cursor => peer::verify(&self.program, CELLS_MAX, &mut self.map, &mut self.done),
+            Side::C(build) => {
+                peer::BUILDS[build].verify_bitmap(&self.program, CELLS_MAX, &mut self.map)
+            }
+            Side::Cursor(build) => {
+                let (map, done) = (&mut self.map, &mut self.done);
+                peer::BUILDS[build].verify(&self.program, CELLS_MAX, map, done)
+            }
         };
         verdict(said.refusal, said.at)
     }
@@ -225,8 +230,8 @@ impl Work for PackCheck {
                 Ok(entries) => [0, entries as u32, 0, 0, 0],
                 Err(error) => [error.number() as u32, 0, 0, 0, 0],
             },
-            Side::C | Side::Cursor => {
-                let checked = peer::pack_check(&self.pack);
+            Side::C(build) | Side::Cursor(build) => {
+                let checked = peer::BUILDS[build].pack_check(&self.pack);
                 [checked.refusal, checked.entries, 0, 0, 0]
             }
         }

@@ -16,7 +16,7 @@ pub struct Timed {
 
 /// Times the sides of a case for about so long.
 pub fn time(case: &mut Case, limit: Duration, mut each_round: impl FnMut()) -> Timed {
-    let sides = case.sides;
+    let sides = case.sides.clone();
     let calls: Vec<u32> = sides.iter().map(|&side| calls(case, side)).collect();
     let mut nanoseconds = vec![f64::INFINITY; sides.len()];
     let mut order: Vec<usize> = (0..sides.len()).collect();

@@ -3,13 +3,13 @@
 use super::case::{Case, Side, Unit};
 use super::clock::Timed;
 
-/// The times of a case, in nanoseconds of a call.
+/// The times of a case, in nanoseconds of a call; of C by each of its builds.
 pub struct Finding {
     name: &'static str,
     unit: Unit,
     ours: f64,
-    c: f64,
-    cursor: Option<f64>,
+    c: Vec<f64>,
+    cursor: Vec<f64>,
     rounds: u32,
 }
 
@@ -19,23 +19,23 @@ impl Finding {
             name: case.name,
             unit: case.unit,
             ours: f64::NAN,
-            c: f64::NAN,
-            cursor: None,
+            c: Vec::new(),
+            cursor: Vec::new(),
             rounds: timed.rounds,
         };
         for (side, &time) in case.sides.iter().zip(&timed.nanoseconds) {
             match side {
                 Side::Proved => finding.ours = time,
-                Side::C => finding.c = time,
-                Side::Cursor => finding.cursor = Some(time),
+                Side::C(_) => finding.c.push(time),
+                Side::Cursor(_) => finding.cursor.push(time),
             }
         }
         finding
     }
 
-    /// C's time by ours.
+    /// The fastest C's time by ours.
     fn ratio(&self) -> f64 {
-        self.c / self.ours
+        least_of(&self.c) / self.ours
     }
 
     fn is_run(&self) -> bool {
@@ -64,20 +64,27 @@ impl Finding {
     }
 
     fn line(&self) -> String {
-        let (cursor, by_cursor) = match self.cursor {
-            Some(time) => (self.told(time), format!("{:.2}", time / self.ours)),
-            None => Default::default(),
+        let (cursor, by_cursor) = match self.cursor[..] {
+            [] => Default::default(),
+            _ => {
+                let time = least_of(&self.cursor);
+                (self.told(time), format!("{:.2}", time / self.ours))
+            }
         };
         row([
             self.name,
             &self.told(self.ours),
-            &self.told(self.c),
+            &self.told(least_of(&self.c)),
             &format!("{:.2}", self.ratio()),
             &cursor,
             &by_cursor,
             &self.rounds.to_string(),
         ])
     }
+}
+
+fn least_of(times: &[f64]) -> f64 {
+    times.iter().copied().fold(f64::INFINITY, f64::min)
 }
 
 fn row([name, ours, c, ratio, cursor, by_cursor, rounds]: [&str; 7]) -> String {
@@ -90,6 +97,21 @@ fn row([name, ours, c, ratio, cursor, by_cursor, rounds]: [&str; 7]) -> String {
 pub fn table(findings: &[Finding]) -> String {
     let head = ["case", "ours", "C", "ratio", "C, cursor", "ratio", "rounds"];
     row(head) + &findings.iter().map(Finding::line).collect::<String>()
+}
+
+/// The ratio by each build of the C, a line for each case.
+pub fn by_build(findings: &[Finding]) -> String {
+    let head = |build: &peer::Build| format!("{:>11}", build.name);
+    let ratios = |finding: &Finding| -> String {
+        let ratio = |time: &f64| format!("{:>11.2}", time / finding.ours);
+        finding.c.iter().map(ratio).collect()
+    };
+    let mut text = format!("{:16}", "ratio to C by");
+    text.extend(peer::BUILDS.iter().map(head));
+    for finding in findings {
+        text += &format!("\n{:16}{}", finding.name, ratios(finding));
+    }
+    text + "\n"
 }
 
 /// The targets of which something was measured, and whether they are met.
@@ -149,8 +171,8 @@ mod tests {
             name,
             unit: Unit::Step(10),
             ours,
-            c,
-            cursor: None,
+            c: vec![c, c + 1.0],
+            cursor: Vec::new(),
             rounds: 5,
         }
     }
@@ -158,7 +180,7 @@ mod tests {
     fn verify(name: &'static str, instructions: u32, ours: f64, c: f64) -> Finding {
         Finding {
             unit: Unit::Instructions(instructions),
-            cursor: Some(3.0 * ours),
+            cursor: vec![4.0 * ours, 3.0 * ours],
             ..run(name, ours, c)
         }
     }
@@ -171,6 +193,16 @@ mod tests {
             "run at least as fast as C: met (least 1.00, even)\n\
              run 1.3 times as fast as C (aim): missed (least 1.00, even)\n"
         );
+    }
+
+    #[test]
+    fn the_fastest_build_is_the_yardstick() {
+        let mut slow_first = run("counting", 10.0, 20.0);
+        slow_first.c = vec![30.0, 15.0, 40.0];
+        assert_eq!(slow_first.ratio(), 1.5);
+        let text = by_build(&[slow_first]);
+        let line: Vec<&str> = text.lines().nth(1).unwrap().split_whitespace().collect();
+        assert_eq!(line, ["counting", "3.00", "1.50", "4.00"]);
     }
 
     #[test]
