@@ -8,7 +8,7 @@ other counts. In all of them the statement is well formed and the proof does not
   cc         the known equations do not join the two sides of an equation
   search     nothing that is known gives the statement
   statement  what the proof shows is another statement than the one asked: two equations or inequalities, or two statements that first
-             differ in a value
+             differ in a value, or so late that only their beginning is printed
   no file    no error is left, a function has no proof file, and the prover's own search does not close the fact that the log names, such
              as that what the function ensures holds when it returns; every other function that is not proved calls it
 So a name that is not found, a term of another type (a state where a list is expected), an invariant or a measure that no longer fits
@@ -28,6 +28,7 @@ ARE = re.compile(rf"computed as far as they go, the two types are {QUOTED.format
 LANDS = re.compile(
     rf"this `[^`]*` lands at index {QUOTED.format('one')} \(position \d+\) "
     rf"but the expected type `[^`]*`(?:, which is `[^`]*`,)? has {QUOTED.format('other')} there")
+LATE = re.compile(r"computed as far as they go, the first \d{4,} bytes of the two types are identical")
 OMEGA = re.compile(r"`omega`: the (?:goal|part `[^`]*` of the goal) does not follow from what it read")
 WAITS = re.compile(r"`[^`]*` was not admitted \(it has holes or undetermined implicits, or was rejected\), so this cannot be checked$")
 REWRITTEN = re.compile(r"`(rw|simp)` has no last argument, so what it leaves must be a path whose two ends are equal, and `Path .*`\s*is none", re.DOTALL)
@@ -88,6 +89,8 @@ def form_of(declaration, said):
         return "cc"
     if SEARCH.match(said):
         return "search"
+    if LATE.search(said):
+        return "statement"
     if ARE.search(said):
         expected, found = map(relation, ARE.search(said).groups())
         return "statement" if expected and expected == found else None

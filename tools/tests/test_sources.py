@@ -201,6 +201,12 @@ class Pages(Case):
             self.assertTrue(list(pages.instructions(guide.replace(old, new, 1))), msg=new)
 
 
+    def test_theorems(self):
+        said = command("pages").said_of_theorems
+        self.assertEqual(list(said("by `decodeOf`, `rows-right` and `jump-if`, the crate `isa`")), [])
+        self.assertEqual(list(said("by `decodesOf` and `rows-left`")), ["`decodesOf` is declared nowhere", "`rows-left` is declared nowhere"])
+
+
 class Edits(Case):
     """Logs in logs/facts are named after the form in which they say that a fact could not be shown; those in logs/others say something else."""
 
