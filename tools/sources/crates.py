@@ -33,8 +33,26 @@ def folders(top=TOP):
     return [folder for folder in sorted((top / "crates").iterdir()) if (folder / "src").is_dir()]
 
 
+def reached(top=TOP):
+    """What each crate stands on, by crates.txt, directly or through others."""
+    listed = (top / "crates.txt").read_text(encoding="utf-8") if (top / "crates.txt").exists() else ""
+    direct = {name: rest.split() for name, rest in re.findall(r"^(\w+):([^#\n]*)", listed, re.MULTILINE)}
+    found = {}
+
+    def below(name):
+        if name not in found:
+            found[name] = set()
+            found[name] = {one for dep in direct.get(name, ()) for one in {dep} | below(dep)}
+        return found[name]
+
+    return {name: below(name) for name in direct}
+
+
 def libraries(top=TOP):
-    return [folder for folder in folders(top) if (folder / "src" / "lib.rt").exists()]
+    """The libraries that a host can link. One that stands on the kit's libraries for programs (io, os and the C library) is a part of
+    programs, as they are: what it prints is tested, and nothing is promised."""
+    stands_on = reached(top)
+    return [folder for folder in folders(top) if (folder / "src" / "lib.rt").exists() and not stands_on.get(folder.name, set()) & {"io", "os", "libc"}]
 
 
 def words_of(items):

@@ -12,7 +12,8 @@ other counts. In all of them the statement is well formed and the proof does not
   no file    no error is left, a function has no proof file, and the prover's own search does not close the fact that the log names, such
              as that what the function ensures holds when it returns; every other function that is not proved calls it
 So a name that is not found, a term of another type (a state where a list is expected), an invariant or a measure that no longer fits
-its loop, a log with nothing but what waits, and a text that is not read, are no such facts.
+its loop, an answer that comes to stand at another need, a log with nothing but what waits, and a text that is not read, are no such
+facts. That a fact could not be shown does not say that it is false: that the edit is wrong is for its reader to see.
 """
 import re
 from typing import NamedTuple
@@ -34,7 +35,9 @@ WAITS = re.compile(r"`[^`]*` was not admitted \(it has holes or undetermined imp
 REWRITTEN = re.compile(r"`(rw|simp)` has no last argument, so what it leaves must be a path whose two ends are equal, and `Path .*`\s*is none", re.DOTALL)
 CC = re.compile(r"`cc`: the equations do not join `")
 SEARCH = re.compile(r"`search`: no proof of `[^`]*`\s*was found")
+SHIFTED = re.compile(r"expected type `tie\.Need-[^`]*`, but this has type `tie\.Need-[^`]*`")
 TYPE_MAKERS = ("the-type", "whole", "row", "plain")
+TYPE_HOMES = ("mir.Syntax.", "denote.Builtin.", "borrow.Table.Referent.")
 TYPE_PARTS = (".Mod", ".Denot")
 
 
@@ -58,11 +61,11 @@ def entries(log):
 
 def is_value(term):
     """Whether a printed term is a value: a number, a part of something, a variant, a variable, or a function's value. Types are none of
-    these: their names begin with a capital, or they are made by TYPE_MAKERS or named by TYPE_PARTS."""
+    these: their names begin with a capital or stand in TYPE_HOMES, or they are made by TYPE_MAKERS or end in TYPE_PARTS."""
     bare = term.strip().strip("()").strip()
     head, last = re.split(r"[\s()]+", bare)[0], re.split(r"[\s()]+", bare)[-1]
     name = head.split(".")[-1]
-    if last in TYPE_PARTS or name in TYPE_MAKERS:
+    if last in TYPE_PARTS or name in TYPE_MAKERS or head.startswith(TYPE_HOMES):
         return False
     return bool(re.fullmatch(r"\d+|\.\w\S*", head) or ".the-variants." in head or re.match(r"[a-zα-ω_\[]", name))
 
@@ -79,7 +82,7 @@ def relation(term):
 
 def form_of(declaration, said):
     """The form in which an error says that a fact could not be shown, or None."""
-    if declaration and re.match(r"Inv-|μ-", declaration):
+    if re.match(r"Inv-|μ-", declaration or "") or SHIFTED.search(said):
         return None
     if OMEGA.match(said):
         return "omega"

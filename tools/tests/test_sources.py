@@ -137,6 +137,12 @@ class Sources(Case):
             with self.assertRaises(rattle.Unread, msg=text):
                 rattle.items(text, "here")
 
+    def test_libraries(self):
+        """What stands on the kit's libraries for programs, through another crate too, is no library for hosts."""
+        top = self.repository({f"{name}/src/lib.rt": "// None.\n" for name in ("one", "two", "three")})
+        (top / "crates.txt").write_text("# crates\none:\ntwo: one io libc # programs\nthree: two\n", encoding="utf-8")
+        self.assertEqual([folder.name for folder in crates.libraries(top)], ["one"])
+
     def test_lost_file(self):
         with self.assertRaises(rattle.Unread):
             self.public({"one/src/lib.rt": "// None.\n", "one/src/lost.rt": "// Lost.\n"})
@@ -229,9 +235,12 @@ class Edits(Case):
             ("Rattle.a.specs.declared.Pair.the-variants.Sub", "Rattle.a.specs.declared.Pair.the-variants.Add", "statement"),
             ("Prim.Native.Nat.ℕ", "mathlib.Core.Bool.Bool", None), ("mathlib.Core.List.List", "Prim.Native.Nat.ℕ", None), ("0", "Prim.Native.Nat.ℕ", None),
             ("Rattle.a.proofs.S.the-type", "Rattle.a.proofs.T.the-type", None), ("(borrow.Table.Rows.whole x) .Mod", "y", None),
+            ("mir.Syntax.w8", "mir.Syntax.w16", None), ("mathlib.Core.List.[]", "mathlib.Core.List._∷_ x y", "statement"),
         ):
             self.assertEqual(refusals.first(DIFFER.format(one, other)).form, form, msg=(one, other))
         self.assertIsNone(refusals.first(DIFFER.format("35", "36").replace("`returns`", "`Inv-loop`")).form)
+        shifted = "\n  expected type `tie.Need-returns`, but this has type `tie.Need-returns-2`"
+        self.assertIsNone(refusals.first(DIFFER.format("35", "36") + shifted).form)
         for one, other, form in (
             ("Path ℕ 0 1", "Path ℕ 0 0", "statement"), ("a .cells ≤ 1024", "a .cells ≤ 1025", "statement"), ("Path ℕ 0 1", "Path (List ℕ) x y", None),
             ("a ≤ 1", "a < 1", None), ("mathlib.Core.List.List ℕ", "Rattle.m.specs.declared.State.State", None),
