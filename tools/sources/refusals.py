@@ -4,7 +4,8 @@ An error that only waits for another declaration ("was not admitted, so this can
 over: the prover prints by file, so it may stand before its cause. Of what is left the first must have one of these forms, and no
 other counts. In all of them the statement is well formed and the proof does not reach it:
   omega      an inequality or equation of numbers does not follow from what is known; omega names numbers for which it fails
-  rw, simp   after all rewriting the two sides of an equation are not the same
+  rw, simp   after all rewriting the two sides of an equation are not the same; or what is known of the code rewrites nothing in the
+             equation, or in what the function ensures
   cc         the known equations do not join the two sides of an equation
   search     nothing that is known gives the statement
   statement  what the proof shows is another statement than the one asked: two equations or inequalities, or two statements that first
@@ -21,7 +22,7 @@ from typing import NamedTuple
 ERROR = re.compile(r"^(?P<place>[^ ].*?:\d+:\d+): error: (?:`(?P<declaration>[^`]+)`: )?(?P<said>.*)", re.DOTALL)
 UNPROVED = re.compile(r"^note: (?P<place>[^ ]+:\d+:\d+): it is not proved that (?P<fact>.*) \(`(?P<need>[^`]+)`\)$", re.DOTALL)
 QUOTED = r"`(?P<{}>[^`]*)`"
-PLACED = r"(?:, (?:at the start,|right after `[^`]*`))?"
+PLACED = r"(?:, (?:at the start|right after `[^`]*`),?)?"
 DIFFER = [re.compile(
     rf"{seen}, the two types (?:differ only|first differ) where one has {QUOTED.format('one')}\s*\(expected\){PLACED}\s*"
     rf"and the other has {QUOTED.format('other')}\s*\(found\)") for seen in ("computed as far as they go", "as printed")]
@@ -33,6 +34,7 @@ LATE = re.compile(r"computed as far as they go, the first \d{4,} bytes of the tw
 OMEGA = re.compile(r"`omega`: the (?:goal|part `[^`]*` of the goal) does not follow from what it read")
 WAITS = re.compile(r"`[^`]*` was not admitted \(it has holes or undetermined implicits, or was rejected\), so this cannot be checked$")
 REWRITTEN = re.compile(r"`(rw|simp)` has no last argument, so what it leaves must be a path whose two ends are equal, and `Path .*`\s*is none", re.DOTALL)
+UNREACHED = re.compile(r"`(rw|simp)`: no equation of the list has an instance in the goal `(?:\S+\.)?(?:Reads\.Post|Path|_≡_) ")
 CC = re.compile(r"`cc`: the equations do not join `")
 SEARCH = re.compile(r"`search`: no proof of `[^`]*`\s*was found")
 SHIFTED = re.compile(r"expected type `tie\.Need-[^`]*`, but this has type `tie\.Need-[^`]*`")
@@ -86,8 +88,8 @@ def form_of(declaration, said):
         return None
     if OMEGA.match(said):
         return "omega"
-    if REWRITTEN.search(said):
-        return REWRITTEN.search(said).group(1)
+    if REWRITTEN.search(said) or UNREACHED.match(said):
+        return (REWRITTEN.search(said) or UNREACHED.match(said)).group(1)
     if CC.match(said):
         return "cc"
     if SEARCH.match(said):
