@@ -14,13 +14,18 @@ use Rattle.machine.specs.Run.{runOf, outcomeOf}
 use Rattle.paths.specs.Walk.{walk, turns, turn, lowest, meets, meet}
 use Rattle.look.specs.Look.{lookOf}
 use Rattle.verifier.specs.Verify.{verifyOf}
+use Rattle.pack.specs.Contents.{entryAt, refusalOf}
+use Rattle.pack.specs.Read.{entriesOf, contentsOf, readOf}
+use Rattle.pack.specs.Find.{findOf}
+use Rattle.pack.specs.Format.{entryBytes, packOf}
+use Rattle.packer.specs.Write.{writeOf}
 use Rattle.worked.specs.Values.{compared, reckoned, shifted, changed, withByte, withWord}
 use Rattle.worked.specs.Memory.{loaded, stored, copied}
 use Rattle.worked.specs.Flow.{ordered, led, asked, pushed}
 use Rattle.worked.specs.Faults.{past, illegal, unread, cut, few, full, outside, apart}
 use Rattle.worked.specs.Walk.{mapped, walked, followed}
 use Rattle.worked.specs.Instructions.{read}
-use Rattle.worked.specs.Worked.{Operations, Faults, Walks, Values, States, Worked}
+use Rattle.worked.specs.Worked.{Operations, Faults, Walks, Values, States, Packs, Worked}
 use Rattle.worked.proofs.Again.{all-again}
 
 pub operations-hold : Operations
@@ -68,6 +73,11 @@ unfolding outcomeOf runOf stepOf actOf doOf depthAfter opOf opIn verifyOf walk t
 states-hold =
     ((refl, refl, refl, refl, refl, refl, refl, refl, refl, refl), (refl, refl, refl, refl, refl, refl, refl, refl, refl, refl, refl, refl, refl, refl, refl, refl, refl, refl, refl, refl, refl))
 
+pub packs-hold : Packs
+unfolding readOf contentsOf entriesOf entryAt refusalOf findOf writeOf packOf entryBytes
+packs-hold =
+    ((refl, refl, refl, refl, refl, refl, refl, refl, refl, refl, refl, refl, refl, refl, refl, refl, refl, refl, refl, refl, refl, refl), (refl, refl, refl, refl, refl, refl, refl, refl, refl, refl, refl))
+
 -- every row
 pub all-worked : Worked
-all-worked = (operations-hold, faults-hold, walks-hold, values-hold, states-hold)
+all-worked = (operations-hold, faults-hold, walks-hold, values-hold, states-hold, packs-hold)

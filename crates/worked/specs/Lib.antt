@@ -7,4 +7,5 @@ pub mod Faults
 pub mod Walk
 pub mod Instructions
 pub mod States
+pub mod Packs
 pub mod Worked
