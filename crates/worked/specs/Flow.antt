@@ -2,6 +2,7 @@
 -- before, and all after.
 use Prim.Native.Nat.{ℕ}
 use mathlib.Core.List.{List, [], _∷_, _++_}
+use lib.ListN.{replicate}
 use Rattle.machine.specs.Machine.{machine}
 use Rattle.machine.specs.Run.{came}
 use Rattle.machine.specs.declared.Status.the-variants.{Halted, Faulted}
@@ -73,10 +74,28 @@ asked =
 abbrev pub ofValues : ℕ → List ℕ → ℕ → ℕ → List ℕ → Example
 ofValues code bytes next count cells = runs (code ∷ (bytes ++ (0x00 ∷ []))) [] (7 ∷ 7 ∷ 7 ∷ 7 ∷ []) (came (machine (at next count Halted) [] cells) 2)
 
+-- every byte from 80 to BF, and a halt
+abbrev pub sixes : List ℕ
+sixes =
+    0x80 ∷ 0x81 ∷ 0x82 ∷ 0x83 ∷ 0x84 ∷ 0x85 ∷ 0x86 ∷ 0x87 ∷ 0x88 ∷ 0x89 ∷ 0x8A ∷ 0x8B ∷ 0x8C ∷ 0x8D ∷ 0x8E ∷ 0x8F
+    ∷ 0x90 ∷ 0x91 ∷ 0x92 ∷ 0x93 ∷ 0x94 ∷ 0x95 ∷ 0x96 ∷ 0x97 ∷ 0x98 ∷ 0x99 ∷ 0x9A ∷ 0x9B ∷ 0x9C ∷ 0x9D ∷ 0x9E ∷ 0x9F
+    ∷ 0xA0 ∷ 0xA1 ∷ 0xA2 ∷ 0xA3 ∷ 0xA4 ∷ 0xA5 ∷ 0xA6 ∷ 0xA7 ∷ 0xA8 ∷ 0xA9 ∷ 0xAA ∷ 0xAB ∷ 0xAC ∷ 0xAD ∷ 0xAE ∷ 0xAF
+    ∷ 0xB0 ∷ 0xB1 ∷ 0xB2 ∷ 0xB3 ∷ 0xB4 ∷ 0xB5 ∷ 0xB6 ∷ 0xB7 ∷ 0xB8 ∷ 0xB9 ∷ 0xBA ∷ 0xBB ∷ 0xBC ∷ 0xBD ∷ 0xBE ∷ 0xBF
+    ∷ 0x00 ∷ []
+
+-- 63 to 0
+abbrev pub downward : List ℕ
+downward =
+    63 ∷ 62 ∷ 61 ∷ 60 ∷ 59 ∷ 58 ∷ 57 ∷ 56 ∷ 55 ∷ 54 ∷ 53 ∷ 52 ∷ 51 ∷ 50 ∷ 49 ∷ 48
+    ∷ 47 ∷ 46 ∷ 45 ∷ 44 ∷ 43 ∷ 42 ∷ 41 ∷ 40 ∷ 39 ∷ 38 ∷ 37 ∷ 36 ∷ 35 ∷ 34 ∷ 33 ∷ 32
+    ∷ 31 ∷ 30 ∷ 29 ∷ 28 ∷ 27 ∷ 26 ∷ 25 ∷ 24 ∷ 23 ∷ 22 ∷ 21 ∷ 20 ∷ 19 ∷ 18 ∷ 17 ∷ 16
+    ∷ 15 ∷ 14 ∷ 13 ∷ 12 ∷ 11 ∷ 10 ∷ 9 ∷ 8 ∷ 7 ∷ 6 ∷ 5 ∷ 4 ∷ 3 ∷ 2 ∷ 1 ∷ 0
+    ∷ []
+
 abbrev pub pushed : List Example
 pushed =
-    -- "80 to BF push the low six bits"
-    runs (0x80 ∷ 0xBF ∷ 0xA5 ∷ 0x00 ∷ []) [] (7 ∷ 7 ∷ 7 ∷ []) (came (machine (at 3 3 Halted) [] (0x25 ∷ 63 ∷ 0 ∷ [])) 4)
+    -- "80 to BF push the low six bits": 0 to 63, so that 63 is the top and 0 the deepest
+    runs sixes [] (replicate 64 7) (came (machine (at 64 64 Halted) [] downward) 65)
     -- "C0 to FF push one to four values: bits 0-1 hold the count less one; bits 2, 3, 4, 5 say, for the first to the fourth value, 0 = one byte, 1 = two.
     -- [..] The length is one, plus the count, plus the number of set flags. The last value ends on top"
     ∷ ofValues 0xC0 (0xFE ∷ []) 2 1 (7 ∷ 7 ∷ 7 ∷ 0xFE ∷ [])
