@@ -2,3 +2,4 @@
 pub mod Tells
 pub mod States
 pub mod Judges
+pub mod Numbers

@@ -1,2 +1,3 @@
 -- The definitions of `tells`.
 pub mod Told
+pub mod Numbers

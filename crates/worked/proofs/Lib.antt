@@ -1,0 +1,3 @@
+-- The laws of `worked`.
+pub mod Again
+pub mod Worked
