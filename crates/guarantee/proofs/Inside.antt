@@ -2,21 +2,27 @@
 -- Assumes nothing.
 use Prim.Native.Nat.{ℕ, suc, _≤_}
 use native.Mathlib.Omega.{arith}
-use mathlib.Core.Path.{_≡_, refl, sym, _∙_}
+use mathlib.Core.Path.{_≡_, refl, sym, ap, _∙_}
+use mathlib.Core.Logic.{_⊎_, inl, inr}
 use mathlib.Core.List.{List}
-use lib.ListN.{length}
+use lib.ListN.{length, getD, List·getD-map}
 use Rattle.isa.proofs.Lengths.{read-length}
 use Rattle.machine.specs.Machine.{Machine, stepOf}
 use Rattle.machine.specs.Trace.{Took, none, more, Ends, paused, stopped, faults}
 use Rattle.machine.proofs.Runs.{run-told}
 use Rattle.machine.proofs.Loop.{Sound, step-sound}
 use Rattle.machine.proofs.Answers.{allowed-runs}
+use Rattle.paths.specs.Paths.{Met, start, onward}
+use Rattle.paths.specs.Walk.{Mark, unmet, due, examined, cellOf}
+use Rattle.paths.proofs.Marks.{Says, at-is}
+use Rattle.paths.proofs.Walks.{final}
 use Rattle.paths.proofs.Inside.{walk-inside}
 use Rattle.look.specs.Look.{lookOf}
+use Rattle.look.proofs.Shallow.{shallow}
 use Rattle.meeting.specs.Clash.{twoDepths}
 use Rattle.rules.proofs.Inside as packs
-use Rattle.guarantee.proofs.Verdicts.{refused-walk}
-use Rattle.guarantee.specs.Demands.{KeepsSizes, ReadsInside, EntriesLieInside, NamesInside}
+use Rattle.guarantee.proofs.Verdicts.{Marked, accepted-marks, refused-walk}
+use Rattle.guarantee.specs.Demands.{KeepsSizes, ReadsInside, EntriesLieInside, DepthsFit, NamesInside}
 
 pub reads-inside : ReadsInside
 unfolding ReadsInside
@@ -49,3 +55,29 @@ keeps-sizes budget count program m m′ a e =
 pub names-inside : NamesInside
 unfolding NamesInside
 names-inside program cells depths after n a e = walk-inside twoDepths (lookOf program cells) (length program) n a (refused-walk program cells depths after n a e .0)
+
+-- a path meets no address at a depth over the cells
+met-fits : (program : List ℕ) (cells a d : ℕ) → Met (lookOf program cells) a d → d ≤ cells
+met-fits program cells a d start = omega arith
+met-fits program cells a d (onward {a = b} {d = e} {hs = hs} m l i) = shallow program cells b e a d hs l i
+
+pub depths-fit : DepthsFit
+unfolding DepthsFit
+depths-fit program cells depths after e a = by (getD ms a unmet) refl
+  where
+    m : Marked program cells depths after
+    m = accepted-marks program cells depths after e
+
+    ms : List Mark
+    ms = m .marks
+
+    cell : (k : Mark) → getD ms a unmet ≡ k → getD after a 65535 ≡ cellOf k
+    cell k q = ap (λ (l : List ℕ). getD l a 65535) (m .filled) ∙ List·getD-map cellOf ms a unmet ∙ ap cellOf q
+
+    met : (d : ℕ) (k : Mark) → getD ms a unmet ≡ k → Says k d → d ≤ cells
+    met d k q s = met-fits program cells a d (final twoDepths (lookOf program cells) (length program) ms (m .walked) .0 .sound .real a d (at-is ms a d k q s))
+
+    by : (k : Mark) → getD ms a unmet ≡ k → (getD after a 65535 ≡ 65535) ⊎ (getD after a 65535 ≤ cells)
+    by unmet q = inl (cell unmet q)
+    by (due d) q = inr (rw (cell (due d) q) (met d (due d) q refl))
+    by (examined d) q = inr (rw (cell (examined d) q) (met d (examined d) q refl))

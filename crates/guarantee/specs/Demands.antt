@@ -5,7 +5,7 @@ use mathlib.Core.Logic.{_⊎_, _≢_}
 use mathlib.Core.Bool.{true}
 use mathlib.Core.List.{List, _++_}
 use mathlib.Core.Option.{some}
-use lib.ListN.{length, take, drop, replicate, getElem?}
+use lib.ListN.{length, take, drop, replicate, getElem?, getD}
 use Rattle.basis.specs.Answer.{given, refused, seen}
 use Rattle.basis.specs.Number.{Bytes}
 use Rattle.basis.specs.Room.{roomAfter}
@@ -189,6 +189,12 @@ unfoldable pub WritesDepths : Type 0
 WritesDepths =
     (program : List ℕ) (cells : ℕ) (depths after : List ℕ) → Accepts program cells depths after
     → Mapped (lookOf program cells) (length program) after
+
+-- No depth in the map of an accepted program is over the cells.
+unfoldable pub DepthsFit : Type 0
+DepthsFit =
+    (program : List ℕ) (cells : ℕ) (depths after : List ℕ) → Accepts program cells depths after
+    → (a : ℕ) → (getD after a 65535 ≡ 65535) ⊎ (getD after a 65535 ≤ cells)
 
 -- "each refusal by the walk has a path that shows it, 10 two" (`Shown`); "Refused by 1 to 10: every cell 65,535".
 unfoldable pub ShowsRefusals : Type 0

@@ -27,8 +27,7 @@ ended-inside s least at (x ∷ es) zero e h g =
     let n = next least at x es (length s) h in
     let o = n .passed .offset in
     let l = end-ge (x .tag + 1) (at + x .length) es (length s) (n .rest) in
-    let b : x .offset + x .length ≤ length s = omega arith in
-    subst (Inside s) (Option·some-injective x e g) (record { ends = b; whole = length-body s x b })
+    subst (Inside s) (Option·some-injective x e g) (record { ends = omega arith; whole = length-body s x (omega arith) })
 ended-inside s least at (x ∷ es) (suc i) e h g = ended-inside s (x .tag + 1) (at + x .length) es i e (next least at x es (length s) h .rest) g
 
 -- The entry at an index of a pack that is read.
