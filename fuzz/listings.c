@@ -7,7 +7,7 @@
 #include <string.h>
 
 /* The longest line, and the most characters that a byte can have in it. */
-enum { LINE = 42, EACH = 17 };
+enum { LINE = 42, EACH = KHX_LIST_MAX / KHX_PROGRAM_MAX };
 
 static size_t next_address(const lent *program, size_t at)
 {

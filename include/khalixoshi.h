@@ -28,8 +28,9 @@ extern "C" {
 #define KHX_PACK_MAX 24576u          /* bytes of a pack */
 #define KHX_ENTRIES_MAX 64u          /* entries of a pack */
 
-/* The longest report on a pack, in bytes. */
-#define KHX_REPORT_MAX 1560u
+/* Rooms that are always enough, none of them a byte too large. */
+#define KHX_LIST_MAX 278528u         /* bytes of a listing: 17 for each byte of the program */
+#define KHX_REPORT_MAX 1536u         /* bytes of a report: 24 for each of 64 lines */
 
 /* A cell of a depth map whose address no path meets. */
 #define KHX_UNMET 65535u
@@ -125,7 +126,7 @@ typedef struct khx_checked {
     size_t entries;
 } khx_checked;
 
-/* An entry of a good pack where `present` is 1: its body is the `length` bytes of the pack from `offset`. */
+/* An entry of a good pack where `present` is 1: its body is the `length` bytes of the pack from `offset`, all inside it. */
 typedef struct khx_entry {
     size_t refusal;
     size_t present;
@@ -174,7 +175,10 @@ static inline khx_ran khx_step(khx_state state, const uint8_t *program, size_t p
  */
 khx_verdict khx_verify(const uint8_t *program, size_t program_length, size_t cells, uint16_t *map, size_t map_length);
 
-/* Writes the listing of a program, a line for each instruction; no zero byte ends it. Refusals: 20, 25. */
+/*
+ * Writes the listing of a program, a line for each instruction; no zero byte ends it. KHX_LIST_MAX bytes of room are enough,
+ * and 17 for each byte of the program. Refusals: 20, 25.
+ */
 khx_written khx_list(const uint8_t *program, size_t program_length, uint8_t *room, size_t room_length);
 
 /* Checks a whole pack. Refusals: 31, 30, then entry by entry 32, 35, 33, and last 34. */

@@ -37,7 +37,7 @@ static void print_text(khx_written text, const uint8_t *room)
 
 static void list(const uint8_t *program, size_t length)
 {
-    static uint8_t room[1024];
+    static uint8_t room[KHX_LIST_MAX];
     print_text(khx_list(program, length, room, sizeof room), room);
 }
 

@@ -1,4 +1,5 @@
 -- The theorems of `guarantee`.
 pub mod Verdicts
 pub mod Demands
+pub mod Inside
 pub mod Marked

@@ -4,8 +4,9 @@ use mathlib.Core.Path.{_≡_}
 use mathlib.Core.Logic.{_⊎_, _≢_}
 use mathlib.Core.Bool.{true}
 use mathlib.Core.List.{List, _++_}
-use lib.ListN.{length, take, drop, replicate}
-use Rattle.basis.specs.Answer.{given, refused}
+use mathlib.Core.Option.{some}
+use lib.ListN.{length, take, drop, replicate, getElem?, getD}
+use Rattle.basis.specs.Answer.{given, refused, seen}
 use Rattle.basis.specs.Number.{Bytes}
 use Rattle.basis.specs.Room.{roomAfter}
 use Rattle.isa.specs.Decode.{decodeOf}
@@ -30,7 +31,7 @@ use Rattle.pack.specs.Read.{readOf}
 use Rattle.pack.specs.Find.{findOf, bodyOf}
 use Rattle.pack.specs.declared.Entry.{Entry}
 use Rattle.packer.specs.Write.{writeOf}
-use Rattle.rules.specs.Rules.{Rule, contentsFor, packed, Among, Packable, WellFormed, ruleOf, rulesOf, writeRules, PartsOf, Words}
+use Rattle.rules.specs.Rules.{Rule, contentsFor, packed, Among, Packable, WellFormed, ruleOf, rulesOf, Inside, writeRules, PartsOf, Words}
 use Rattle.rules.specs.Refusals.{Why as WhyPack}
 
 -- Demand 1.
@@ -71,6 +72,13 @@ IsStepByStep =
     × ((steps left : ℕ) (program : List ℕ) (m last m′ : Machine) → Allowed program m → Took program m steps last → Ends program last left m′
     → outcomeOf (steps + left) program m ≡ came m′ steps)
 
+-- "with n cells and depth d the live values are cells n-d to n-1": an allowed run hands back as many data bytes and cells as it was
+-- lent, and a depth of at most the cells.
+unfoldable pub KeepsSizes : Type 0
+KeepsSizes =
+    (budget count : ℕ) (program : List ℕ) (m m′ : Machine) → Allowed program m → outcomeOf budget program m ≡ came m′ count
+    → (length (m′ .mem) ≡ length (m .mem)) × (length (m′ .cells) ≡ length (m .cells)) × (m′ .state .depth ≤ length (m′ .cells))
+
 -- A fault "needs a budget of at least one": with none, an allowed run hands back what it was given, no step counted.
 unfoldable pub NoneAtZero : Type 0
 NoneAtZero = (program : List ℕ) (m : Machine) → Allowed program m → outcomeOf 0 program m ≡ came m 0
@@ -110,6 +118,10 @@ RefusesExactly =
     ((program : List ℕ) (at n : ℕ) → Bytes program → decodeOf program at ≡ refused n → Why program at n)
     × ((program : List ℕ) (at n : ℕ) → Why program at n → decodeOf program at ≡ refused n)
 
+-- What is read has one byte at least and ends inside the program; so does the place that a reader moves to.
+unfoldable pub ReadsInside : Type 0
+ReadsInside = (program : List ℕ) (at n : ℕ) (i : Instruction) → decodeOf program at ≡ given (i, n) → (0 < n) × (at + n ≤ length program)
+
 -- No two well-formed instructions have the same bytes.
 unfoldable pub BytesTellApart : Type 0
 BytesTellApart = (i j : Instruction) → wellFormed i ≡ true → wellFormed j ≡ true → encodedOf i ≡ encodedOf j → i ≡ j
@@ -137,13 +149,21 @@ PackIsReadAgain =
 unfoldable pub PackRefusesExactly : Type 0
 PackRefusesExactly = ((s : List ℕ) (n : ℕ) → readOf s ≡ refused n → WhyPack s n) × ((s : List ℕ) (n : ℕ) → WhyPack s n → readOf s ≡ refused n)
 
--- A found program is exactly the body of the rule with that tag, and a tag is found exactly where a rule has it.
+-- A found program is exactly the body of the rule with that tag, and a tag is found exactly where a rule has it; the bytes that
+-- the entry names lie inside the pack (`Inside`).
 unfoldable pub FindsExactly : Type 0
 FindsExactly =
     (s : List ℕ) (w : WellFormed s)
-    → ((r : Rule) → Among r (w .rules) → (e : Entry) × (findOf s (r .tag) ≡ given e) × (e .cells ≡ r .cells) × (bodyOf s e ≡ r .body))
-    × ((tag : ℕ) (e : Entry) → findOf s tag ≡ given e → (e .tag ≡ tag) × Among (ruleOf s e) (w .rules))
+    → ((r : Rule) → Among r (w .rules) → (e : Entry) × (findOf s (r .tag) ≡ given e) × (e .cells ≡ r .cells) × (bodyOf s e ≡ r .body) × Inside s e)
+    × ((tag : ℕ) (e : Entry) → findOf s tag ≡ given e → (e .tag ≡ tag) × Among (ruleOf s e) (w .rules) × Inside s e)
     × ((tag : ℕ) → ((r : Rule) → Among r (w .rules) → r .tag ≡ tag → ⊥) → findOf s tag ≡ refused 36)
+
+-- What is told of a pack is told of what it holds: a count of at most 64, and entries, by index or by tag, whose bytes lie inside it.
+unfoldable pub EntriesLieInside : Type 0
+EntriesLieInside =
+    ((s : List ℕ) (n : ℕ) → seen length (readOf s) ≡ given n → n ≤ 64)
+    × ((s : List ℕ) (index : ℕ) (e : Entry) → seen (λ es. getElem? es index) (readOf s) ≡ given (some e) → Inside s e)
+    × ((s : List ℕ) (tag : ℕ) (e : Entry) → findOf s tag ≡ given e → Inside s e)
 
 -- Demand 3.
 
@@ -170,11 +190,23 @@ WritesDepths =
     (program : List ℕ) (cells : ℕ) (depths after : List ℕ) → Accepts program cells depths after
     → Mapped (lookOf program cells) (length program) after
 
+-- No depth in the map of an accepted program is over the cells.
+unfoldable pub DepthsFit : Type 0
+DepthsFit =
+    (program : List ℕ) (cells : ℕ) (depths after : List ℕ) → Accepts program cells depths after
+    → (a : ℕ) → (getD after a 65535 ≡ 65535) ⊎ (getD after a 65535 ≤ cells)
+
 -- "each refusal by the walk has a path that shows it, 10 two" (`Shown`); "Refused by 1 to 10: every cell 65,535".
 unfoldable pub ShowsRefusals : Type 0
 ShowsRefusals =
     (program : List ℕ) (cells : ℕ) (depths after : List ℕ) (n a : ℕ) → verifyOf program cells depths ≡ (names n a, after)
     → Shown twoDepths (lookOf program cells) (length program) n a × (after ≡ replicate (length program) 65535)
+
+-- "A refusal names the instruction examined", which stands inside the program; "An empty program is 1 at 0".
+unfoldable pub NamesInside : Type 0
+NamesInside =
+    (program : List ℕ) (cells : ℕ) (depths after : List ℕ) (n a : ℕ) → verifyOf program cells depths ≡ (names n a, after)
+    → (a < length program) ⊎ ((length program ≡ 0) × (n ≡ 1) × (a ≡ 0))
 
 -- "Started fresh, with that many cells or more, any admissible data and any budget, an accepted program faults only on a data
 -- range or a copy's program range, and its depth is always the one the verifier wrote down for its address" (`Safe`).

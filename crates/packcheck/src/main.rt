@@ -5,7 +5,7 @@ use report::Reported;
 
 // Prints the report on a pack; the room has place for the longest.
 fn say(pack: &[u8], map: &mut [u16]) {
-    let mut room = [0u8; 1560];
+    let mut room = [0u8; 1536];
     let reported = report::write(pack, map, &mut room);
     match reported {
         Reported::Written(n) => {

@@ -27,10 +27,12 @@ abbrev pub laidFrom : List ℕ → ℕ → Answer (List Entry) → List ℕ → 
 laidFrom pack i (given es) map = allLaid pack (drop i es) map
 laidFrom pack i (refused n) map = map
 
--- whoever puts what is left into the room as it is has put the whole report, and the same of the map
+-- whoever puts what is left into the room as it is has put the whole report, and the same of the map; the line of a refused pack is
+-- the only one
 pub record Left (pack : List ℕ) (i : ℕ) (room : List ℕ) (at : ℕ) (map room₀ map₀ : List ℕ) : Type 0 where
   pub lines : (after : List ℕ) (end : ℕ) → Put (linesFrom pack i (readOf pack)) room at after end → Put (reportOf pack) room₀ 0 after end
   pub laid : laidFrom pack i (readOf pack) map ≡ mapIn pack (readOf pack) map₀
+  pub alone : (n : ℕ) → readOf pack ≡ refused n → at ≡ 0
 
 lines-whole : (pack : List ℕ) (a : Answer (List Entry)) → linesFrom pack 0 a ≡ reportIn pack a
 lines-whole pack (given es) = refl
@@ -45,6 +47,7 @@ unfolding reportOf
 left-start pack room map = record {
   lines = λ after end p. subst (λ (xs : List ℕ). Put xs room 0 after end) (lines-whole pack (readOf pack)) p;
   laid = laid-whole pack map (readOf pack);
+  alone = λ n q. refl;
 }
 
 module _ {pack : List ℕ} {i : ℕ} {room : List ℕ} {at : ℕ} {map room₀ map₀ : List ℕ} (l : Left pack i room at map room₀ map₀) where
@@ -76,6 +79,7 @@ module _ {pack : List ℕ} {i : ℕ} {room : List ℕ} {at : ℕ} {map room₀ m
     left-next after end p later q = record {
       lines = λ last stop r. l .lines last stop (subst (λ (xs : List ℕ). Put xs room at last stop) (sym (entered .lines)) (put-append p r));
       laid = ap (laidFrom pack (i + 1) (readOf pack)) q ∙ sym (entered .laid) ∙ l .laid;
+      alone = λ n r. absurd (refused-given n (some e) (rw r at h));
     }
 
   -- there is none
@@ -93,6 +97,9 @@ module _ {pack : List ℕ} {i : ℕ} {room : List ℕ} {at : ℕ} {map room₀ m
 
   -- the pack is refused
   module _ (n : ℕ) (h : seen (λ es. getElem? es i) (readOf pack) ≡ refused n) where
+    pub left-alone : at ≡ 0
+    left-alone = l .alone n (refused-seen (λ es. getElem? es i) (readOf pack) n h)
+
     pub left-refused : (after : List ℕ) (end : ℕ) → Put (packLineOf n) room at after end → Put (reportOf pack) room₀ 0 after end × (map ≡ mapIn pack (readOf pack) map₀)
     left-refused after end p =
         let q = refused-seen (λ es. getElem? es i) (readOf pack) n h in

@@ -32,8 +32,8 @@ fn put_entry(pack: &[u8], e: Entry, map: &mut [u16], room: &mut [u8], at: usize)
 
 // Puts the report on a pack at the start of `room`; its length.
 fn put_report(pack: &[u8], map: &mut [u16], room: &mut [u8]) -> usize
-    requires { ⌜ (16384 ≤ length (now map)) × (1560 ≤ length (now room)) ⌝ }
-    ensures { λ r. ⌜ Put (reportOf (now (pack .entry))) (now (room .entry)) 0 (now (room .exit)) r × (r ≤ 1560) ⌝ }
+    requires { ⌜ (16384 ≤ length (now map)) × (1536 ≤ length (now room)) ⌝ }
+    ensures { λ r. ⌜ Put (reportOf (now (pack .entry))) (now (room .entry)) 0 (now (room .exit)) r × (r ≤ 1536) ⌝ }
     ensures { λ _. ⌜ now (map .exit) ≡ mapIn (now (pack .entry)) (readOf (now (pack .entry))) (now (map .entry)) ⌝ }
 {
     let mut next = 0;
@@ -59,7 +59,7 @@ pub fn write(pack: &[u8], map: &mut [u16], room: &mut [u8]) -> Reported
     if map.len() < 16384 {
         return Reported::Refused(23);
     }
-    let mut lines = [0u8; 1560];
+    let mut lines = [0u8; 1536];
     let n = put_report(pack, map, &mut lines);
     if room.len() < n {
         return Reported::Refused(25);

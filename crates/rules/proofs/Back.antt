@@ -55,7 +55,7 @@ record Same (s : List ℕ) (at : ℕ) (es : List Entry) : Type 0 where
   entries : entriesFor at (rulesOf s es) ≡ es
   bodies : bodiesOf (rulesOf s es) ≡ drop at s
 
-length-body : (s : List ℕ) (e : Entry) → e .offset + e .length ≤ length s → length (bodyOf s e) ≡ e .length
+pub length-body : (s : List ℕ) (e : Entry) → e .offset + e .length ≤ length s → length (bodyOf s e) ≡ e .length
 length-body s e h = length-take-le (e .length) (drop (e .offset) s) (rw length-drop (omega arith))
 
 same : (s : List ℕ) (least at : ℕ) (es : List Entry) → endOf least at es ≡ given (length s) → Same s at es

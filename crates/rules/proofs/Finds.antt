@@ -17,9 +17,10 @@ use Rattle.pack.specs.Read.{readOf}
 use Rattle.pack.specs.Find.{soughtIn, findOf, bodyOf}
 use Rattle.pack.specs.declared.Entry.{Entry}
 use Rattle.packer.specs.Write.{entryOf}
-use Rattle.rules.specs.Rules.{Rule, entriesFor, bodiesOf, contentsFor, Among, WellFormed, ruleOf}
+use Rattle.rules.specs.Rules.{Rule, entriesFor, bodiesOf, contentsFor, Among, WellFormed, ruleOf, Inside}
 use Rattle.rules.proofs.Kept.{Kept, nil, cons, packable-kept, kept-least}
 use Rattle.rules.proofs.Forth.{packed-read, bodies-forth}
+use Rattle.rules.proofs.Inside.{found-inside}
 
 -- the first entry tells the first rule, and the other bodies follow its body
 rule-here : (s : List ℕ) (at : ℕ) (r : Rule) (rs : List Rule) → drop at s ≡ bodiesOf (r ∷ rs) → ruleOf s (entryOf (r .tag) (r .cells) at (length (r .body))) ≡ r
@@ -75,17 +76,18 @@ module _ (s : List ℕ) (w : WellFormed s) where
   bodies = rw (← w .bytes) (bodies-forth (w .rules) (w .packable))
 
   -- Every rule of a well-formed pack is found by its tag: its cells, and the part of the pack that is its program;
-  pub rule-found : (r : Rule) → Among r (w .rules) → (e : Entry) × (findOf s (r .tag) ≡ given e) × (e .cells ≡ r .cells) × (bodyOf s e ≡ r .body)
+  pub rule-found : (r : Rule) → Among r (w .rules) → (e : Entry) × (findOf s (r .tag) ≡ given e) × (e .cells ≡ r .cells) × (bodyOf s e ≡ r .body) × Inside s e
   unfolding findOf
   rule-found r m =
       let g = w .packable in
       let f = sought-among s 0 (firstOf (length (w .rules))) (w .rules) (packable-kept (w .rules) (g .rising) (g .each)) bodies r m in
-      (f .entry, rw read (f .found), ap (λ (x : Rule). x .cells) (f .rule), ap (λ (x : Rule). x .body) (f .rule))
+      let h : findOf s (r .tag) ≡ given (f .entry) = rw read (f .found) in
+      (f .entry, h, ap (λ (x : Rule). x .cells) (f .rule), ap (λ (x : Rule). x .body) (f .rule), found-inside s (r .tag) (f .entry) h)
 
   -- whatever is found for a tag is the rule with that tag;
-  pub found-rule : (tag : ℕ) (e : Entry) → findOf s tag ≡ given e → (e .tag ≡ tag) × Among (ruleOf s e) (w .rules)
+  pub found-rule : (tag : ℕ) (e : Entry) → findOf s tag ≡ given e → (e .tag ≡ tag) × Among (ruleOf s e) (w .rules) × Inside s e
   unfolding findOf
-  found-rule tag e h = sought-only s (firstOf (length (w .rules))) (w .rules) tag e bodies (rw read at h)
+  found-rule tag e h = let r = sought-only s (firstOf (length (w .rules))) (w .rules) tag e bodies (rw read at h) in (r .0, r .1, found-inside s tag e h)
 
   -- and a tag that no rule has is 36.
   pub absent-refused : (tag : ℕ) → ((r : Rule) → Among r (w .rules) → r .tag ≡ tag → ⊥) → findOf s tag ≡ refused 36

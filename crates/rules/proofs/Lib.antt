@@ -2,6 +2,7 @@
 pub mod Kept
 pub mod Forth
 pub mod Back
+pub mod Inside
 pub mod Takes
 pub mod Trips
 pub mod Finds

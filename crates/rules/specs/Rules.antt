@@ -68,6 +68,12 @@ ruleOf s e = record { tag = e .tag; cells = e .cells; body = bodyOf s e }
 abbrev pub rulesOf : List ℕ → List Entry → List Rule
 rulesOf s es = map (ruleOf s) es
 
+-- what a host relies on that reads the bytes which an entry names: they end no later than the pack does, as a whole-number sum, and
+-- the body is as long as the entry says
+pub record Inside (s : List ℕ) (e : Entry) : Type 0 where
+  pub ends : e .offset + e .length ≤ length s
+  pub whole : length (bodyOf s e) ≡ e .length
+
 -- rules as the writer takes them
 abbrev pub tagsOf : List Rule → List ℕ
 tagsOf rs = map (λ (r : Rule). r .tag) rs

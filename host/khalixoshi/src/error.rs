@@ -213,6 +213,7 @@ mod tests {
         assert_eq!(size("KHX_INSTRUCTION_MAX"), crate::INSTRUCTION_MAX);
         assert_eq!(size("KHX_PACK_MAX"), crate::PACK_MAX);
         assert_eq!(size("KHX_ENTRIES_MAX"), crate::ENTRIES_MAX);
+        assert_eq!(size("KHX_LIST_MAX"), crate::LIST_MAX);
         assert_eq!(size("KHX_REPORT_MAX"), crate::REPORT_MAX);
         assert_eq!(size("KHX_UNMET"), crate::UNMET.into());
     }

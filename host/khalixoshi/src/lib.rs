@@ -68,7 +68,9 @@ pub const INSTRUCTION_MAX: usize = 9;
 pub const PACK_MAX: usize = 24_576;
 /// The most entries of a pack.
 pub const ENTRIES_MAX: usize = 64;
-/// The bytes of room that are enough for every report.
-pub const REPORT_MAX: usize = 1_560;
+/// The bytes of room that are enough for every listing: 17 for each byte of a program.
+pub const LIST_MAX: usize = 278_528;
+/// The bytes of room that are enough for every report: 24 for each of 64 lines.
+pub const REPORT_MAX: usize = 1_536;
 /// What a depth map holds for an address that no path meets.
 pub const UNMET: u16 = 65_535;

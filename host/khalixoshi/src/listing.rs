@@ -1,10 +1,10 @@
 //! A program as text.
 
-use crate::{c, Error};
+use crate::{c, Error, LIST_MAX, PROGRAM_MAX};
 
 /// Writes the listing of a program at the start of a room, a line for each
-/// instruction, and gives its length. Refusals: 20, 25, which leave the room as it
-/// was.
+/// instruction, and gives its length. [`LIST_MAX`] bytes of room are enough, and 17
+/// for each byte of the program. Refusals: 20, 25, which leave the room as it was.
 ///
 /// ```
 /// use khalixoshi::{list, Error};
@@ -29,11 +29,8 @@ pub fn list(program: &[u8], room: &mut [u8]) -> Result<usize, Error> {
 /// # Ok::<(), khalixoshi::Error>(())
 /// ```
 pub fn listing(program: &[u8]) -> Result<String, Error> {
-    let mut room = vec![0; 16 * program.len()];
-    loop {
-        match list(program, &mut room) {
-            Err(Error::Room) => room.resize(2 * room.len() + 1, 0),
-            answer => return Ok(String::from_utf8_lossy(&room[..answer?]).into_owned()),
-        }
-    }
+    let enough = LIST_MAX / PROGRAM_MAX * program.len().min(PROGRAM_MAX);
+    let mut room = vec![0; enough];
+    let length = list(program, &mut room)?;
+    Ok(String::from_utf8_lossy(&room[..length]).into_owned())
 }

@@ -3,8 +3,8 @@
 use khalixoshi::pack::{self, Entry, Rule};
 use khalixoshi::{
     decode, depths, encode, encoded, list, listing, report, verdicts, verify, Error, Fault,
-    Instruction, Reader, Refused, State, Status, CELLS_MAX, DATA_MAX, ENTRIES_MAX, PACK_MAX,
-    PROGRAM_MAX, REPORT_MAX, UNMET,
+    Instruction, Reader, Refused, State, Status, CELLS_MAX, DATA_MAX, ENTRIES_MAX, LIST_MAX,
+    PACK_MAX, PROGRAM_MAX, REPORT_MAX, UNMET,
 };
 
 const M1: [u8; 4] = [0x85, 0x83, 0x15, 0x00];
@@ -211,9 +211,20 @@ fn list_in_either_way() {
     assert_eq!(list(&M1, &mut room), Ok(whole.len()));
     assert_eq!(&room[..whole.len()], whole.as_bytes());
     assert_eq!(listing(&[]), Ok(String::new()));
-    let longest = listing(&[0x5B; PROGRAM_MAX]).unwrap();
-    assert_eq!(longest.lines().count(), PROGRAM_MAX);
-    assert!(longest.ends_with("3FFF byte $5B\n"));
+    let bytes = listing(&[0x5B; PROGRAM_MAX]).unwrap();
+    assert_eq!(bytes.lines().count(), PROGRAM_MAX);
+    assert!(bytes.ends_with("3FFF byte $5B\n"));
+}
+
+/// The longest listing fills its room: short pushes, 17 bytes each.
+#[test]
+fn the_longest_listing() {
+    let pushes = [0x80; PROGRAM_MAX];
+    let mut room = vec![b'.'; LIST_MAX];
+    assert_eq!(list(&pushes, &mut room[1..]), Err(Error::Room));
+    assert_eq!(list(&pushes, &mut room), Ok(LIST_MAX));
+    assert!(room.ends_with(b"\n3FFF push-u8 $00\n"));
+    assert_eq!(listing(&pushes).unwrap().as_bytes(), room);
 }
 
 #[test]
@@ -313,9 +324,11 @@ fn packs_built() {
         let body = vec![0; length];
         assert_eq!(pack::build(&[rule(7, &body)]), Err(Error::PackEntry));
     }
-    let body = [0; 12_300];
-    let rules = [rule(1, &body), rule(2, &body)];
+    let body = [0; 12_280];
+    let rules = [rule(1, &body), rule(2, &body[1..])];
     assert_eq!(pack::build(&rules), Err(Error::PackSize));
+    let rules = [rule(1, &body[1..]), rule(2, &body[1..])];
+    assert_eq!(pack::build(&rules).map(|pack| pack.len()), Ok(PACK_MAX));
 }
 
 #[test]
@@ -330,7 +343,7 @@ fn reports() {
     assert_eq!(verdicts(&[0, 0]), "");
 }
 
-/// The longest report there is fits: 64 rules, each refused by a number of two digits.
+/// The longest report fills its room: 64 rules, each refused by a number of two digits.
 #[test]
 fn the_longest_report() {
     let body = [0x81, 0x3C, 0x00];
@@ -341,7 +354,11 @@ fn the_longest_report() {
             body: &body,
         })
         .collect();
-    let lines = verdicts(&pack::build(&rules).unwrap());
-    assert_eq!(lines.len(), 64 * "003F refused 10 at 0001\n".len());
-    assert!(lines.len() <= REPORT_MAX);
+    let pack = pack::build(&rules).unwrap();
+    assert_eq!(verdicts(&pack).len(), REPORT_MAX);
+    let (mut map, mut room) = ([0; PROGRAM_MAX], [b'.'; REPORT_MAX]);
+    let shorter = report(&pack, &mut map, &mut room[1..]);
+    assert_eq!(shorter, Err(Error::Room));
+    assert_eq!(report(&pack, &mut map, &mut room), Ok(REPORT_MAX));
+    assert!(room.ends_with(b"\n003F refused 10 at 0001\n"));
 }

@@ -28,7 +28,7 @@ part-write-all-start c = search needs
 part-write-all-end : tie.Need-part-write-all-end
 part-write-all-end c = let a = c .before .before .before .before .before .before .before .before .before .before .before .before .args in
     let k = c .before .before .before .before .before .before .before .write .kept .1 .1 .0 in
-    let w = written-fits (now (a .pack)) (length (now (a .map))) 1560 (c .before .before .reported .given .0 .0) (sym (ap reportedAnswer (c .before .before .reported .given .1)) ∙ c .before .before .before .before .before .before .before .write .ensures .0) in
+    let w = written-fits (now (a .pack)) (length (now (a .map))) 1536 (c .before .before .reported .given .0 .0) (sym (ap reportedAnswer (c .before .before .reported .given .1)) ∙ c .before .before .before .before .before .before .before .write .ensures .0) in
     omega (arith, k, w)
 
 write-all-requires : tie.Need-write-all-requires

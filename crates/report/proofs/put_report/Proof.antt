@@ -8,7 +8,7 @@ use denote.Ref.{now}
 use Rattle.pack.specs.Read.{listedAnswer}
 use Rattle.report.specs.Report.{judgedOf}
 use Rattle.verdicts.proofs.Lines.{length-line, length-pack-line}
-use Rattle.report.proofs.Reports.{Left, left-start, entered, left-next, left-past, left-refused}
+use Rattle.report.proofs.Reports.{Left, left-start, entered, left-next, left-past, left-alone, left-refused}
 use borrow.Author.Needs.{needs}
 use Rattle.report.proofs.put_report.Statement.{statement}
 use Rattle.report.proofs.put_report.Tie as tie
@@ -59,7 +59,7 @@ enum-known-number : tie.Need-enum-known-number Inv-loop μ-loop
 enum-known-number c = search needs
 
 put-pack-line-requires : tie.Need-put-pack-line-requires Inv-loop μ-loop
-put-pack-line-requires c κs = omega arith
+put-pack-line-requires c κs = let l = c .before .before .before .before .before .loop in let z = left-alone (l .inv .4) _ (sym (c .before .before .before .before .entry-at .ensures) ∙ ap listedAnswer (c .before .before .number .given .1)) in omega (arith, z)
 
 same-length-3 : tie.Need-same-length-3 Inv-loop μ-loop
 same-length-3 c = omega arith
@@ -68,7 +68,9 @@ same-length-4 : tie.Need-same-length-4 Inv-loop μ-loop
 same-length-4 c = omega arith
 
 returns-2 : tie.Need-returns-2 Inv-loop μ-loop
-returns-2 c = let l = c .before .before .before .before .before .before .before .before .loop in let q = c .before .before .put-pack-line .ensures in let p = left-refused (l .inv .4) _ (sym (c .before .before .before .before .before .before .before .entry-at .ensures) ∙ ap listedAnswer (c .before .before .before .before .before .number .given .1)) _ _ q in ((p .0, omega (arith, q .next, length-pack-line (c .before .before .before .before .before .number .given .0 .0))), p .1)
+returns-2 c = let l = c .before .before .before .before .before .before .before .before .loop in let q = c .before .before .put-pack-line .ensures in
+    let r = sym (c .before .before .before .before .before .before .before .entry-at .ensures) ∙ ap listedAnswer (c .before .before .before .before .before .number .given .1) in
+    let p = left-refused (l .inv .4) _ r _ _ q in ((p .0, omega (arith, q .next, left-alone (l .inv .4) _ r, length-pack-line (c .before .before .before .before .before .number .given .0 .0))), p .1)
 
 pub put-report-spec : {M : Type 1} → statement M
 put-report-spec =

@@ -1,0 +1,2 @@
+-- The statements of `sizes`.
+pub mod Sizes
