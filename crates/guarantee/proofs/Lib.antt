@@ -1,4 +1,5 @@
 -- The theorems of `guarantee`.
 pub mod Verdicts
+pub mod Faults
 pub mod Demands
 pub mod Marked
