@@ -97,8 +97,8 @@ typedef struct khx_written {
 
 /*
  * A machine's state. All 0 is the fresh state. `fault` is the fault's number where the status is KHX_FAULTED. Handed in, a
- * status over 2 is taken as KHX_FAULTED, so it cannot run, and comes back so; the fault of another status is not looked
- * at and comes back 0.
+ * status over 2 is taken as KHX_FAULTED, so it cannot run, and comes back so; the fault beside KHX_RUNNING or KHX_HALTED is not
+ * looked at and comes back 0.
  */
 typedef struct khx_state {
     size_t address;
@@ -107,7 +107,10 @@ typedef struct khx_state {
     size_t fault;
 } khx_state;
 
-/* What a run came to: the steps taken and the state, which after a refusal is the one handed in. */
+/*
+ * What a run came to: the steps taken and the state. After a refusal, and where the state had stopped, it is the one handed in, but
+ * that a status over 2 comes back as KHX_FAULTED and the fault beside KHX_RUNNING or KHX_HALTED as 0.
+ */
 typedef struct khx_ran {
     size_t refusal;
     uint32_t steps;
@@ -155,7 +158,7 @@ static inline khx_state khx_fresh(void)
 /*
  * Runs at most `budget` steps over the lent data and cells. The status afterwards is KHX_RUNNING (the budget is used: hand
  * the state in again to go on), KHX_HALTED, or KHX_FAULTED by 1 to 8. With depth d the live values are the last d cells,
- * the top first. A stopped state comes back as it was, 0 steps. Refusals: 20, 21, 22, 24; none touches a memory.
+ * the top first. A stopped state comes back as khx_ran says, 0 steps. Refusals: 20, 21, 22, 24; none touches a memory.
  */
 khx_ran khx_run(khx_state state, const uint8_t *program, size_t program_length, uint8_t *data, size_t data_length,
                 uint16_t *cells, size_t cells_length, uint32_t budget);

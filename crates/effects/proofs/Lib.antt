@@ -2,3 +2,5 @@
 pub mod Opens
 pub mod Keeps
 pub mod Frame
+pub mod Agrees
+pub mod Faults

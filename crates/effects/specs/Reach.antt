@@ -54,6 +54,40 @@ module _ (arg : ℕ → ℕ) where
   writesCount (op.Push vs) = 0
   writesCount op.NoOp = 0
 
+  -- the data that an operation may read: a load's bytes, "c bytes from data b"; from this address
+  abbrev pub readsFrom : Op → ℕ
+  readsFrom op.Halt = 0
+  readsFrom op.Discard = 0
+  readsFrom op.DataCopy = arg 1
+  readsFrom op.ProgramCopy = 0
+  readsFrom op.Swap = 0
+  readsFrom (op.Taken r) = 0
+  readsFrom (op.Given r x) = 0
+  readsFrom (op.Two p) = 0
+  readsFrom (op.TwoNumber p x) = 0
+  readsFrom (op.One s) = 0
+  readsFrom (op.Load w n x) = placeOf arg n x
+  readsFrom (op.Store w n x) = 0
+  readsFrom (op.Push vs) = 0
+  readsFrom op.NoOp = 0
+
+  -- so many bytes
+  abbrev pub readsCount : Op → ℕ
+  readsCount op.Halt = 0
+  readsCount op.Discard = 0
+  readsCount op.DataCopy = arg 2
+  readsCount op.ProgramCopy = 0
+  readsCount op.Swap = 0
+  readsCount (op.Taken r) = 0
+  readsCount (op.Given r x) = 0
+  readsCount (op.Two p) = 0
+  readsCount (op.TwoNumber p x) = 0
+  readsCount (op.One s) = 0
+  readsCount (op.Load w n x) = w
+  readsCount (op.Store w n x) = 0
+  readsCount (op.Push vs) = 0
+  readsCount op.NoOp = 0
+
   -- the ranges that it reads or writes lie inside their memories, as whole-number sums
   abbrev pub InRange : List ℕ → List ℕ → Op → Type 0
   InRange program mem op.Halt = Unit {0}
@@ -84,3 +118,20 @@ pub record Framed (program : List ℕ) (o : Op) (depth : ℕ) (mem cells : List 
   pub cells-length : length (d .cells) ≡ length cells
   pub data-kept : (q : ℕ) → Out q (writesFrom (operandOf cells depth) o) (writesCount (operandOf cells depth) o) → getD (d .mem) q 0 ≡ getD mem q 0
   pub cells-kept : (q : ℕ) → Out q (length cells - (depth - takenOf o + pushedOf o)) (pushedOf o) → getD (d .cells) q 0 ≡ getD cells q 0
+
+-- a place among so many places from another
+abbrev pub Among : ℕ → ℕ → ℕ → Type 0
+Among q from n = (from ≤ q) × (q < from + n)
+
+-- two memories of one length, with the same bytes in a range
+pub record Agree (from n : ℕ) (mem mem′ : List ℕ) : Type 0 where
+  pub size : length mem ≡ length mem′
+  pub bytes : (q : ℕ) → Among q from n → getD mem q 0 ≡ getD mem′ q 0
+
+-- what was done over two memories is the same: what became of it, all cells and, where it is no fault, the bytes written
+pub record Alike (o : Op) (depth : ℕ) (cells : List ℕ) (d e : Done) : Type 0 where
+  pub same-move : d .move ≡ e .move
+  pub same-cells : d .cells ≡ e .cells
+  pub same-bytes :
+      isFault (d .move) ≡ false → (q : ℕ) → Among q (writesFrom (operandOf cells depth) o) (writesCount (operandOf cells depth) o)
+      → getD (d .mem) q 0 ≡ getD (e .mem) q 0

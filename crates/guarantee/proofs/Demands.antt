@@ -9,13 +9,14 @@ use mathlib.Core.Bool.{Bool, true, false}
 use mathlib.Core.List.{List, map}
 use lib.ListN.{length}
 use Rattle.basis.specs.Pick.{pick}
-use Rattle.machine.specs.Machine.{Machine, stepOf}
+use Rattle.machine.specs.Machine.{Machine, machine, fresh, stepOf}
 use Rattle.machine.specs.Run.{came, isRunning, isFaulted, runOf, outcomeOf}
 use Rattle.machine.specs.Refusals.{Allowed}
 use Rattle.machine.specs.Trace.{Told}
 use Rattle.machine.proofs.Runs.{run-used, run-told, told-run}
 use Rattle.machine.proofs.Answers.{over-refused, allowed-runs, over-or-allowed}
 use Rattle.effects.proofs.Frame.{act-framed}
+use Rattle.effects.proofs.Agrees.{act-alike}
 use Rattle.encoder.proofs.Trips.{read-stands, stands-read, written-read, read-written, encoded-one}
 use Rattle.isa.proofs.Refuses.{refusal-why, why-refusal}
 use Rattle.paths.specs.Paths.{Mapped}
@@ -26,15 +27,18 @@ use Rattle.look.proofs.Wrongs.{clear-fine, fine-clear}
 use Rattle.meeting.specs.Clash.{twoDepths}
 use Rattle.verifier.specs.Verify.{nameless, onWalk, verifyOf}
 use Rattle.verifier.proofs.Verdicts as verdicts
-use Rattle.safety.specs.Sealed.{Safe}
-use Rattle.safety.proofs.Safety.{sealed-safe}
+use Rattle.verifier.proofs.Numbers.{verify-number}
+use Rattle.safety.specs.Sealed.{Sealed, Safe}
+use Rattle.safety.proofs.Safety.{fresh-safe, resumed-safe}
 use Rattle.guarantee.proofs.Verdicts.{accepted-marks, refused-walk, early-refused, final-sealed, answer}
+use Rattle.guarantee.proofs.Faults.{run-faulted-by, fault-alters, unread-alters}
 use Rattle.rules.proofs.Forth.{packed-read, packed-rules}
 use Rattle.rules.proofs.Takes.{packable-written}
 use Rattle.rules.proofs.Trips as packs
 use Rattle.rules.proofs.Refuses as packs-refuse
 use Rattle.rules.proofs.Finds as finds
 use Rattle.guarantee.specs.Demands.{IsRefused, HasAnswer, IsStepByStep, NoneAtZero, NoSumWraps, IsRead, IsWrittenAgain, IsReadAgain, RefusesExactly, BytesTellApart, PackIsRead, PackIsWrittenAgain, PackIsReadAgain, PackRefusesExactly, FindsExactly, Early, long-program, many-cells, unlike-map, RefusesEarly, AcceptsExactly, WritesDepths, ShowsRefusals, RunsSafely, Answers}
+use Rattle.guarantee.specs.Demands.{FaultsByNumber, FaultAltersStatus, ReadsOnlyItsRange, RefusesByNumber, Accepts, ResumesSafely}
 
 pub is-refused : IsRefused
 unfolding IsRefused
@@ -73,9 +77,21 @@ pub none-at-zero : NoneAtZero
 unfolding NoneAtZero
 none-at-zero program m a = allowed-runs 0 program m a ∙ run-used program m 0 0 refl
 
+pub faults-by-number : FaultsByNumber
+unfolding FaultsByNumber
+faults-by-number budget count program m m′ a f e = run-faulted-by program budget count m m′ (a .program-size) f (run-told program budget m m′ count (sym (allowed-runs budget program m a) ∙ e))
+
+pub fault-alters-status : FaultAltersStatus
+unfolding FaultAltersStatus
+fault-alters-status = ((λ program m h. fault-alters program m h), (λ program m n e. unread-alters program m n e))
+
 pub no-sum-wraps : NoSumWraps
 unfolding NoSumWraps
 no-sum-wraps program m i n e = act-framed program (m .state .address) (m .state .depth) (m .mem) (m .cells) i n e
+
+pub reads-only-its-range : ReadsOnlyItsRange
+unfolding ReadsOnlyItsRange
+reads-only-its-range program m other i n e g = act-alike program (m .state .address) (m .state .depth) (m .mem) other (m .cells) i n e g
 
 pub is-read : IsRead
 unfolding IsRead
@@ -155,12 +171,28 @@ shows-refusals program cells depths after n a e =
     let r = refused-walk program cells depths after n a e in
     (shows twoDepths (lookOf program cells) (length program) n a (r .0), r .1)
 
-pub runs-safely : RunsSafely
-unfolding RunsSafely
-runs-safely program cells depths after e budget count mem cs m′ a l o =
+pub refuses-by-number : RefusesByNumber
+unfolding RefusesByNumber
+refuses-by-number program cells depths = verify-number program cells depths
+
+-- the map that an accepted program leaves is sealed
+accepted-sealed : (program : List ℕ) (cells : ℕ) (depths after : List ℕ) → Accepts program cells depths after → Sealed program cells after
+accepted-sealed program cells depths after e =
     let m = accepted-marks program cells depths after e in
-    let s = final-sealed program cells (m .admissible .few) (m .marks) (final twoDepths (lookOf program cells) (length program) (m .marks) (m .walked) .0) in
-    subst (λ (d : List ℕ). Safe d m′) (sym (m .filled)) (sealed-safe program cells (map cellOf (m .marks)) s budget count mem cs m′ a l o)
+    subst (Sealed program cells) (sym (m .filled))
+    (final-sealed program cells (m .admissible .few) (m .marks) (final twoDepths (lookOf program cells) (length program) (m .marks) (m .walked) .0))
+
+pub resumes-safely : ResumesSafely
+unfolding ResumesSafely
+resumes-safely program cells depths after e =
+    let s = accepted-sealed program cells depths after e in
+    ((λ mem cs. fresh-safe program cells after s mem cs), (λ budget count m mem cs m′ h a l o. resumed-safe program cells after s budget count m mem cs m′ h a (omega arith) o))
+
+pub runs-safely : RunsSafely
+unfolding RunsSafely ResumesSafely
+runs-safely program cells depths after e budget count mem cs m′ a l o =
+    let r = resumes-safely program cells depths after e in
+    r .1 budget count (machine fresh mem cs) mem cs m′ (r .0 mem cs) a (omega arith) o
 
 pub answers : Answers
 unfolding Answers

@@ -1,5 +1,6 @@
 -- The theorems of `guarantee`.
 pub mod Verdicts
+pub mod Faults
 pub mod Demands
 pub mod Inside
 pub mod Marked

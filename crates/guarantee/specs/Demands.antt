@@ -2,7 +2,7 @@
 use Prim.Native.Nat.{ℕ, _+_, _<_, _≤_}
 use mathlib.Core.Path.{_≡_}
 use mathlib.Core.Logic.{_⊎_, _≢_}
-use mathlib.Core.Bool.{true}
+use mathlib.Core.Bool.{true, false}
 use mathlib.Core.List.{List, _++_}
 use mathlib.Core.Option.{some}
 use lib.ListN.{length, take, drop, replicate, getElem?, getD}
@@ -15,17 +15,20 @@ use Rattle.isa.specs.declared.Instruction.{Instruction}
 use Rattle.isa.specs.Op.{opOf}
 use Rattle.encoder.specs.Encode.{wellFormed, encodedOf, encodeOf}
 use Rattle.effects.specs.Act.{actOf}
-use Rattle.effects.specs.Reach.{Framed}
-use Rattle.machine.specs.Machine.{Machine, machine, fresh}
+use Rattle.effects.specs.Memory.{operandOf}
+use Rattle.effects.specs.Reach.{Framed, readsFrom, readsCount, Agree, Alike}
+use Rattle.machine.specs.Machine.{Machine, machine, fresh, stepOf}
 use Rattle.machine.specs.Run.{came, outcomeOf}
 use Rattle.machine.specs.Run.{refused as refusedRun}
 use Rattle.machine.specs.Refusals.{Over, Allowed}
-use Rattle.machine.specs.Trace.{Took, Ends, Told}
+use Rattle.machine.specs.Trace.{faulted, Took, Ends, Told}
+use Rattle.machine.specs.declared.Status.{Status}
+use Rattle.machine.specs.declared.Status.the-variants.{Running, Halted, Faulted}
 use Rattle.paths.specs.Paths.{Shown, Mapped}
 use Rattle.look.specs.Look.{lookOf}
 use Rattle.look.specs.Wrong.{Clear}
 use Rattle.meeting.specs.Clash.{twoDepths}
-use Rattle.verifier.specs.Verify.{good, names, nameless, verifyOf}
+use Rattle.verifier.specs.Verify.{good, names, nameless, Numbered, verifyOf}
 use Rattle.safety.specs.Sealed.{Safe}
 use Rattle.pack.specs.Read.{readOf}
 use Rattle.pack.specs.Find.{findOf, bodyOf}
@@ -83,6 +86,29 @@ KeepsSizes =
 unfoldable pub NoneAtZero : Type 0
 NoneAtZero = (program : List ℕ) (m : Machine) → Allowed program m → outcomeOf 0 program m ≡ came m 0
 
+-- the table of faults: of a state that faulted, the number is 1 to 8
+abbrev pub FaultedBy : Status → Type 0
+FaultedBy Running = Unit {0}
+FaultedBy Halted = Unit {0}
+FaultedBy (Faulted n) = (1 ≤ n) × (n ≤ 8)
+
+-- What an allowed run hands back, started from a state that had not faulted, is running, halted or faulted by 1 to 8.
+unfoldable pub FaultsByNumber : Type 0
+FaultsByNumber =
+    (budget count : ℕ) (program : List ℕ) (m m′ : Machine) → Allowed program m → faulted m ≡ false → outcomeOf budget program m ≡ came m′ count
+    → FaultedBy (m′ .state .status)
+
+-- the machine with no byte and no cell altered, and of its state only the status: faulted by this number
+abbrev pub faultedBy : ℕ → Machine → Machine
+faultedBy n m = machine (record { address = m .state .address; depth = m .state .depth; status = Faulted n }) (m .mem) (m .cells)
+
+-- "A fault alters only the status", of any machine at any address; where no instruction is read, the step is the decoder's
+-- refusal, 1, 2 or 3, as a fault.
+unfoldable pub FaultAltersStatus : Type 0
+FaultAltersStatus =
+    ((program : List ℕ) (m : Machine) → faulted (stepOf program m) ≡ true → (n : ℕ) × (stepOf program m ≡ faultedBy n m))
+    × ((program : List ℕ) (m : Machine) (n : ℕ) → decodeOf program (m .state .address) ≡ refused n → stepOf program m ≡ faultedBy n m)
+
 -- "No address sum wraps": a step that does not fault has the ranges of its instruction inside the memories, their sums being
 -- whole numbers; every byte outside the range that it names, and every cell outside those that it pushes into, keeps what it
 -- held; and a fault alters no byte and no cell (`Framed`).
@@ -90,6 +116,15 @@ unfoldable pub NoSumWraps : Type 0
 NoSumWraps =
     (program : List ℕ) (m : Machine) (i : Instruction) (n : ℕ) → decodeOf program (m .state .address) ≡ given (i, n)
     → Framed program (opOf i) (m .state .depth) (m .mem) (m .cells) (actOf program (m .state .address) (m .state .depth) (m .mem) (m .cells))
+
+-- Nothing is read but the range that the instruction names: over data of one length that agree there (`Agree`), whatever
+-- else they hold, the instruction does the same: its move, all cells, and every byte that it writes (`Alike`). So no data
+-- outside that range, say another message's in one buffer, shows in what a hostile table's rule comes to.
+unfoldable pub ReadsOnlyItsRange : Type 0
+ReadsOnlyItsRange =
+    (program : List ℕ) (m : Machine) (other : List ℕ) (i : Instruction) (n : ℕ) → decodeOf program (m .state .address) ≡ given (i, n)
+    → Agree (readsFrom (operandOf (m .cells) (m .state .depth)) (opOf i)) (readsCount (operandOf (m .cells) (m .state .depth)) (opOf i)) (m .mem) other
+    → Alike (opOf i) (m .state .depth) (m .cells) (actOf program (m .state .address) (m .state .depth) (m .mem) (m .cells)) (actOf program (m .state .address) (m .state .depth) other (m .cells))
 
 -- "Every well-formed instruction .. is read": wherever its bytes stand in an admissible program, the decoder gives it.
 unfoldable pub IsRead : Type 0
@@ -208,6 +243,11 @@ NamesInside =
     (program : List ℕ) (cells : ℕ) (depths after : List ℕ) (n a : ℕ) → verifyOf program cells depths ≡ (names n a, after)
     → (a < length program) ⊎ ((length program ≡ 0) × (n ≡ 1) × (a ≡ 0))
 
+-- Every refusal of the verifier has its number: 1 to 5 or 8 to 10 where it names an instruction, never 6 or 7; 20, 22 or 23
+-- where it names none (`Numbered`).
+unfoldable pub RefusesByNumber : Type 0
+RefusesByNumber = (program : List ℕ) (cells : ℕ) (depths : List ℕ) → Numbered (verifyOf program cells depths .0)
+
 -- "Started fresh, with that many cells or more, any admissible data and any budget, an accepted program faults only on a data
 -- range or a copy's program range, and its depth is always the one the verifier wrote down for its address" (`Safe`).
 unfoldable pub RunsSafely : Type 0
@@ -215,6 +255,15 @@ RunsSafely =
     (program : List ℕ) (cells : ℕ) (depths after : List ℕ) → Accepts program cells depths after
     → (budget count : ℕ) (mem cs : List ℕ) (m′ : Machine) → Allowed program (machine fresh mem cs) → cells ≤ length cs
     → outcomeOf budget program (machine fresh mem cs) ≡ came m′ count → Safe after m′
+
+-- The same of a run that is gone on with: a fresh state is safe; and from any safe state, whatever became of data and cells since it
+-- was handed back, with that many cells or more, any admissible data and any budget, what is handed back is safe again.
+unfoldable pub ResumesSafely : Type 0
+ResumesSafely =
+    (program : List ℕ) (cells : ℕ) (depths after : List ℕ) → Accepts program cells depths after
+    → ((mem cs : List ℕ) → Safe after (machine fresh mem cs))
+    × ((budget count : ℕ) (m : Machine) (mem cs : List ℕ) (m′ : Machine) → Safe after m → Allowed program (machine (m .state) mem cs)
+    → cells ≤ length cs → outcomeOf budget program (machine (m .state) mem cs) ≡ came m′ count → Safe after m′)
 
 -- The verifier always answers: it accepts, or refuses before the walk, or in it.
 unfoldable pub Answers : Type 0

@@ -2,5 +2,6 @@
 pub mod Codes
 pub mod Answers
 pub mod Refuses
+pub mod Numbers
 pub mod Table
 pub mod Lengths

@@ -1,4 +1,5 @@
 -- What is proved of `look`.
+pub mod Numbers
 pub mod Readings
 pub mod Shallow
 pub mod Wrongs

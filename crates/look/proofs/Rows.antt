@@ -19,7 +19,8 @@ use Rattle.forms.specs.declared.Form.{Form}
 use Rattle.forms.specs.declared.Form.the-variants.{Plain, Byte, Shift, Word, Short, Values, Illegal}
 use Rattle.isa.specs.Shape.{takenIn, pushedIn, wayIn, depthAfter}
 use Rattle.isa.specs.Refusals.{illegal-first}
-use Rattle.isa.proofs.Codes.{leading, others}
+use Rattle.isa.specs.Op.{opIn}
+use Rattle.isa.proofs.Codes.{isNext, leading, others}
 use Rattle.isa.proofs.Refuses.{why-refusal}
 use Rattle.shapes.specs.Shapes.{shapeRows}
 use Rattle.shapes.proofs.Looks.{length-row, taken-row, pushed-row}
@@ -80,6 +81,45 @@ from-0b = refl
 pub from-01 : span onward 0x01 4 ≡ true
 unfolding codeOf formOf
 from-01 = refl
+
+-- and the runs between them: they lead elsewhere, or are shifts
+abbrev turning : ℕ → Bool
+turning b = pick (isNext (wayIn (codeOf b) 0)) (pick (notShift (formOf (codeOf b))) false true) true
+
+turns : (b : ℕ) → turning b ≡ true → GoesOn b → ⊥
+turns b e g = by (formOf (codeOf b)) refl (rw (← g .next 0) at e)
+  where
+    by : (f : Form) → formOf (codeOf b) ≡ f → pick (notShift f) false true ≡ true → ⊥
+    by Plain q h = false-true h
+    by Byte q h = false-true h
+    by Shift q h = g .free q
+    by Word q h = false-true h
+    by Short q h = false-true h
+    by Values q h = false-true h
+    by Illegal q h = false-true h
+
+pub turns-among : (lo n : ℕ) → span turning lo n ≡ true → (b : ℕ) → lo ≤ b → b < lo + n → GoesOn b → ⊥
+turns-among lo n t b h l = turns b (inside turning lo n t b h l)
+
+pub from-55 : span turning 0x55 6 ≡ true
+unfolding codeOf formOf wayIn opIn
+from-55 = refl
+
+pub from-3b : span turning 0x3B 6 ≡ true
+unfolding codeOf formOf wayIn opIn
+from-3b = refl
+
+pub from-31 : span turning 0x31 2 ≡ true
+unfolding codeOf formOf wayIn opIn
+from-31 = refl
+
+pub from-05 : span turning 0x05 6 ≡ true
+unfolding codeOf formOf wayIn opIn
+from-05 = refl
+
+pub from-00 : span turning 0x00 1 ≡ true
+unfolding codeOf formOf wayIn opIn
+from-00 = refl
 
 -- an address inside an admissible program, and the table
 module _ (program : List ℕ) (cells at depth : ℕ) (bytes : Bytes program) (i : at < length program) (s : length program ≤ 16384) (rows : List ℕ) (e : rows ≡ shapeRows) where

@@ -1,6 +1,6 @@
 // What an instruction leads to at a depth, before it is run: a refusal, or its successors.
 ghost use mathlib.Core.Path.{_≡_};
-ghost use mathlib.Core.Bool.{true};
+ghost use mathlib.Core.Bool.{true, false};
 ghost use Prim.Native.Nat.{ℕ, _<_, _≤_};
 ghost use lib.ListN.{length};
 ghost use Rattle.isa.specs.Op.{Halt, Given};
@@ -93,7 +93,7 @@ fn look_read(program: &[u8], cells: usize, at: usize, depth: usize) -> Look
 
 // A first byte after which the next instruction always follows, and whose operands may hold anything.
 fn goes_on(first: u8) -> bool
-    ensures { λ r. ⌜ (r ≡ true → GoesOn first) ⌝ }
+    ensures { λ r. ⌜ (r ≡ true → GoesOn first) × (r ≡ false → GoesOn first → ⊥) ⌝ }
 {
     if first >= 0x5B {
         return true;

@@ -132,7 +132,7 @@ pub record Kept (ms : List Mark) (hs : List Hop) (later : List Mark) : Type 0 wh
 -- why they cannot be met
 pub data Clash (clash : ℕ → ℕ → ℕ) (ms : List Mark) (hs : List Hop) : ℕ → Type 0 where
   outside : {b e : ℕ} → In b e hs → length ms ≤ b → Clash clash ms hs 1
-  twice : {b e x : ℕ} → In b e hs → At ms b x ⊎ In b x hs → x ≢ e → Clash clash ms hs (clash x e)
+  twice : {b e x : ℕ} → In b e hs → b < length ms → At ms b x ⊎ In b x hs → x ≢ e → Clash clash ms hs (clash x e)
 
 abbrev pub Right : (ℕ → ℕ → ℕ) → List Mark → List Hop → Meeting → Type 0
 Right clash ms hs (kept later) = Kept ms hs later
@@ -146,7 +146,7 @@ again-right clash ms b e d h =
       has = λ x y p. ⊎-elim (λ q. at-move (q .0) (q .1 ∙ sym (eqb-true d e v)) h) (λ q. absurd (in-nil q)) (in-cases p);
       from = λ a y p. inl p;
     })
-    (λ v. twice here (inl h) (eqb-false d e v))
+    (λ v. twice here (at-inside h) (inl h) (eqb-false d e v))
 
 meet-at : (clash : ℕ → ℕ → ℕ) (ms : List Mark) (b e : ℕ) → b < length ms → (m : Mark) → getD ms b unmet ≡ m → Right clash ms (hop b e ∷ []) (meetAt clash ms b e m)
 meet-at clash ms b e i unmet u =
@@ -181,11 +181,11 @@ was hs (inr q) = inr (in-wide hs q)
 
 clash-one : {clash : ℕ → ℕ → ℕ} {ms : List Mark} {b e : ℕ} (hs : List Hop) {k : ℕ} → Clash clash ms (hop b e ∷ []) k → Clash clash ms (hop b e ∷ hs) k
 clash-one hs (outside i h) = outside (in-wide hs i) h
-clash-one hs (twice i w n) = twice (in-wide hs i) (was hs w) n
+clash-one hs (twice i l w n) = twice (in-wide hs i) l (was hs w) n
 
 clash-on : {clash : ℕ → ℕ → ℕ} {ms later : List Mark} {b e : ℕ} {hs : List Hop} {k : ℕ} → Kept ms (hop b e ∷ []) later → Clash clash later hs k → Clash clash ms (hop b e ∷ hs) k
 clash-on p (outside i h) = outside (there i) (omega (arith, p .ext .len))
-clash-on {hs = hs} p (twice {b = x} {x = z} i w n) = twice (there i) (⊎-elim (λ q. was hs (p .from x z q)) (λ q. inr (there q)) w) n
+clash-on {hs = hs} p (twice {b = x} {x = z} i l w n) = twice (there i) (omega (arith, p .ext .len)) (⊎-elim (λ q. was hs (p .from x z q)) (λ q. inr (there q)) w) n
 
 kept-on : {ms later last : List Mark} {b e : ℕ} {hs : List Hop} → Kept ms (hop b e ∷ []) later → Kept later hs last → Kept ms (hop b e ∷ hs) last
 kept-on {hs = hs} p q =

@@ -12,7 +12,7 @@ use lib.ListN.{length, getD, set, replicate, length-set, length-map, length-repl
 use lib.Seq.{getD-set-same, getD-set-other}
 use borrow.Author.Tests.{ltb-true, ltb-false}
 use Rattle.basis.proofs.Tests.{false-true, test, same?}
-use Rattle.paths.specs.Paths.{Hop, Outcome, bad, leads, In, there, Met, start, onward, Fine, Shown, beyond, refuses, leaves, differs, Mapped}
+use Rattle.paths.specs.Paths.{Hop, Outcome, bad, leads, In, there, Met, start, onward, Fine, Shown, empty, refuses, leaves, differs, Mapped}
 use Rattle.paths.specs.Walk.{Mark, unmet, due, examined, Walked, accepted, refused, Meeting, kept, broke, Turn, done, more, meets, isDue, lowest, turned, examine, begun, goOn, turnAt, turn, turns, walk, cellOf}
 use Rattle.paths.proofs.Marks.{Says, At, at-one, at-is, at-unmet, unmet-examined, at-move, at-inside, set-same, set-other, set-back, due-examined, ahead, allAhead, ahead-set, outside, twice, Right, meets-right, Lowest, lowest-is, lowest-one}
 
@@ -92,6 +92,9 @@ module _ (clash : ℕ → ℕ → ℕ) (look : ℕ → ℕ → Outcome) where
     here-met : Met look a d
     here-met = s .real a d (due-at ms a d e)
 
+    here-inside : a < length ms
+    here-inside = at-inside (due-at ms a d e)
+
     after-right : (hs : List Hop) → look a d ≡ leads hs → (r : Meeting) → Right clash (set ms a (examined d)) hs r → Turned ms (turned a r)
     after-right hs l (kept later) k = (
       record {
@@ -119,12 +122,12 @@ module _ (clash : ℕ → ℕ → ℕ) (look : ℕ → ℕ → Outcome) where
               onto = λ b z j. k .ext .keeps b z (mark-to ms a d e b z (c .onto b z j));
             })
             (same? x a)
-    after-right hs l (broke j) (outside w h) = leaves here-met l w (omega (arith, length-set ms a (examined d)))
-    after-right hs l (broke j) (twice {b = b} {x = x} w h n) =
-        differs here-met l w (⊎-elim (λ q. s .real b x (mark-back ms a d e b x q)) (λ q. onward here-met l q) h) n
+    after-right hs l (broke j) (outside w h) = leaves here-met here-inside l w (omega (arith, length-set ms a (examined d)))
+    after-right hs l (broke j) (twice {b = b} {x = x} w i h n) =
+        differs here-met here-inside l w (omega (arith, length-set ms a (examined d))) (⊎-elim (λ q. s .real b x (mark-back ms a d e b x q)) (λ q. onward here-met l q) h) n
 
     examine-right : (o : Outcome) → look a d ≡ o → Turned ms (examine clash ms a d o)
-    examine-right (bad k) l = refuses here-met l
+    examine-right (bad k) l = refuses here-met here-inside l
     examine-right (leads hs) l = after-right hs l (meets clash (set ms a (examined d)) hs) (meets-right clash (set ms a (examined d)) hs)
 
   turn-right : (ms : List Mark) → Sound look ms → Turned ms (turn clash look ms)
@@ -171,7 +174,7 @@ module _ (clash : ℕ → ℕ → ℕ) (look : ℕ → ℕ → Outcome) where
 
   walk-right : (n : ℕ) → Answered n (walk clash look n)
   unfolding walk allAhead
-  walk-right zero = beyond start (omega arith)
+  walk-right zero = empty refl
   walk-right (suc n) = turns-right (suc n) (suc (suc n)) (begun n) (begun-sound n) (omega (arith, unmet-ahead n)) (ap suc (length-replicate n unmet))
 
   same-hops : {hs is : List Hop} → leads hs ≡ leads is → hs ≡ is
@@ -205,10 +208,10 @@ module _ (clash : ℕ → ℕ → ℕ) (look : ℕ → ℕ → Outcome) where
 
   -- and none can be shown where the path condition holds
   pub fine-unshown : (n k a : ℕ) → Fine look n → Shown clash look n k a → ⊥
-  fine-unshown n k a f (beyond p h) = omega (arith, f .within _ _ p)
-  fine-unshown n k a f (refuses p e) = f .good _ _ _ p e
-  fine-unshown n k a f (leaves p e i h) = omega (arith, f .within _ _ (onward p e i))
-  fine-unshown n k a f (differs p e i q h) = h (f .once _ _ _ q (onward p e i))
+  fine-unshown n k a f (empty z) = omega (arith, f .within 0 0 start)
+  fine-unshown n k a f (refuses p l e) = f .good _ _ _ p e
+  fine-unshown n k a f (leaves p l e i h) = omega (arith, f .within _ _ (onward p e i))
+  fine-unshown n k a f (differs p l e i m q h) = h (f .once _ _ _ q (onward p e i))
 
   pub final : (n : ℕ) (ms : List Mark) → walk clash look n ≡ accepted ms → Final look ms × (length ms ≡ n)
   final n ms e = subst (Answered n) e (walk-right n)

@@ -36,10 +36,11 @@ module _ (look : ℕ → ℕ → Outcome) where
 -- that it names; `clash` numbers the refusal where an address is met at two depths
 module _ (clash : ℕ → ℕ → ℕ) (look : ℕ → ℕ → Outcome) where
   pub data Shown (n : ℕ) : ℕ → ℕ → Type 0 where
-    beyond : {a d : ℕ} → Met look a d → n ≤ a → Shown n 1 a
-    refuses : {a d k : ℕ} → Met look a d → look a d ≡ bad k → Shown n k a
-    leaves : {a d b e : ℕ} {hs : List Hop} → Met look a d → look a d ≡ leads hs → In b e hs → n ≤ b → Shown n 1 a
-    differs : {a d b e x : ℕ} {hs : List Hop} → Met look a d → look a d ≡ leads hs → In b e hs → Met look b x → x ≢ e → Shown n (clash x e) a
+    -- "An empty program is 1 at 0"; every other refusal "names the instruction examined", which stands inside the program
+    empty : n ≡ 0 → Shown n 1 0
+    refuses : {a d k : ℕ} → Met look a d → a < n → look a d ≡ bad k → Shown n k a
+    leaves : {a d b e : ℕ} {hs : List Hop} → Met look a d → a < n → look a d ≡ leads hs → In b e hs → n ≤ b → Shown n 1 a
+    differs : {a d b e x : ℕ} {hs : List Hop} → Met look a d → a < n → look a d ≡ leads hs → In b e hs → b < n → Met look b x → x ≢ e → Shown n (clash x e) a
 
 -- "a cell holds the depth of its address if a path meets it, else 65,535"
 module _ (look : ℕ → ℕ → Outcome) where

@@ -1,4 +1,4 @@
--- A program with a sealed map, started fresh with as many cells or more, is safe at every budget.
+-- A program with a sealed map, started fresh or gone on with from a safe state, with as many cells or more, is safe at every budget.
 -- Assumes nothing.
 use Prim.Native.Nat.{ℕ, zero, suc, _+_, _≤_}
 use native.Mathlib.Omega.{arith}
@@ -45,7 +45,7 @@ module _ (program : List ℕ) (cells : ℕ) (map : List ℕ) (s : Sealed program
   came-one m m′ k c e = cc
 
   -- a run from a safe state is safe
-  run-safe : (n : ℕ) (m m′ : Machine) (k c : ℕ) → m .state .depth ≤ length (m .cells) → cells ≤ length (m .cells) → Safe map m → runOf n program m k ≡ came m′ c → Safe map m′
+  pub run-safe : (n : ℕ) (m m′ : Machine) (k c : ℕ) → m .state .depth ≤ length (m .cells) → cells ≤ length (m .cells) → Safe map m → runOf n program m k ≡ came m′ c → Safe map m′
   unfolding runOf
   run-safe zero m m′ k c d l h e = subst (Safe map) (came-one m m′ k c e) h
   run-safe (suc n) m m′ k c d l h e =
@@ -58,10 +58,18 @@ module _ (program : List ℕ) (cells : ℕ) (map : List ℕ) (s : Sealed program
       by ih true false f = ih f
       by ih false u f = subst (Safe map) (came-one m m′ k c f) h
 
+  pub fresh-safe : (mem cs : List ℕ) → Safe map (machine fresh mem cs)
+  fresh-safe mem cs = record { status = tt; depth = s .begun; marked = λ q. omega arith }
+
+  -- a safe state, handed in again with any data and any cells, as many or more
+  pub resumed-safe : (budget count : ℕ) (m : Machine) (mem cs : List ℕ) (m′ : Machine) → Safe map m → Allowed program (machine (m .state) mem cs) → cells ≤ length cs
+      → outcomeOf budget program (machine (m .state) mem cs) ≡ came m′ count → Safe map m′
+  resumed-safe budget count m mem cs m′ h a l e =
+      run-safe budget (machine (m .state) mem cs) m′ 0 count (a .deep) l (record { status = h .status; depth = h .depth; marked = h .marked })
+      (sym (allowed-runs budget program (machine (m .state) mem cs) a) ∙ e)
+
   -- "Started fresh, with that many cells or more, any admissible data and any budget": it faults only 6 or 7, and its depth
   -- is the one in the map
   pub sealed-safe : (budget count : ℕ) (mem cs : List ℕ) (m′ : Machine) → Allowed program (machine fresh mem cs) → cells ≤ length cs
       → outcomeOf budget program (machine fresh mem cs) ≡ came m′ count → Safe map m′
-  sealed-safe budget count mem cs m′ a l e =
-      run-safe budget (machine fresh mem cs) m′ 0 count (omega arith) l (record { status = tt; depth = s .begun; marked = λ q. omega arith })
-      (sym (allowed-runs budget program (machine fresh mem cs) a) ∙ e)
+  sealed-safe budget count mem cs m′ a l e = resumed-safe budget count (machine fresh mem cs) mem cs m′ (fresh-safe mem cs) a l e

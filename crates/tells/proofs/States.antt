@@ -6,13 +6,14 @@ use mathlib.Core.Path.{_≡_, refl, sym, ap, _∙_}
 use mathlib.Core.Bool.{Bool, true, false}
 use mathlib.Core.List.{List}
 use lib.ListN.{length}
-use lib.Dec.{ltb}
+use lib.Dec.{ltb, eqb}
 use Rattle.basis.specs.Pick.{pick}
 use Rattle.machine.specs.Machine.{Machine, machine, fresh, stepOf}
 use Rattle.machine.specs.Run.{Outcome, came, refused, isRunning, isFaulted, runOf, outcomeOf}
 use Rattle.machine.specs.declared.State.{State}
 use Rattle.machine.specs.declared.Status.{Status}
 use Rattle.machine.specs.declared.Status.the-variants.{Running, Halted, Faulted}
+use Rattle.answers.specs.declared.KhxState.{KhxState}
 use Rattle.answers.specs.declared.KhxRan.{KhxRan}
 use Rattle.answers.specs.Runs.{statusOf, stateOf, stateWith, stateIn, ranIn}
 use Rattle.tells.specs.Told.{ToldRun}
@@ -26,6 +27,18 @@ status-back address depth (Faulted n) = refl
 -- what is handed back, handed in again, is the same state
 pub state-back : (s : State) → stateOf (stateIn s) ≡ s
 state-back s = status-back (s .address) (s .depth) (s .status)
+
+-- what is handed in comes back so where nothing alters it: a status that is neither running nor halted as faulted, with its fault
+pub handed-back : (s : KhxState) → stateIn (stateOf s) ≡ pick (eqb (s .status) 0) (stateWith (s .address) (s .depth) Running)
+    (pick (eqb (s .status) 1) (stateWith (s .address) (s .depth) Halted) (stateWith (s .address) (s .depth) (Faulted (s .fault))))
+unfolding statusOf
+handed-back s = by (eqb (s .status) 0) (eqb (s .status) 1)
+  where
+    by : (t u : Bool) → stateWith (s .address) (s .depth) (pick t Running (pick u Halted (Faulted (s .fault))))
+        ≡ pick t (stateWith (s .address) (s .depth) Running) (pick u (stateWith (s .address) (s .depth) Halted) (stateWith (s .address) (s .depth) (Faulted (s .fault))))
+    by true u = refl
+    by false true = refl
+    by false false = refl
 
 -- a host's state of zeros is the fresh one
 pub zeros-fresh : stateOf (record { address = 0; depth = 0; status = 0; fault = 0 }) ≡ fresh

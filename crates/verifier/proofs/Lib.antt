@@ -2,3 +2,4 @@
 
 pub mod Loops
 pub mod Verdicts
+pub mod Numbers

@@ -76,10 +76,10 @@ enum-known-number : tie.Need-enum-known-number
 enum-known-number c = search needs
 
 returns-4 : tie.Need-returns-4
-returns-4 c = row-led ((c .before .before .before .before .before .before .before .before .before .before .before .before .before .before) .args .program .now) _ _ _ (λ j. omega (arith, (c .before .before .before .before .before .before .before .before .before .before .before .before) .shared-slice-known2 .given j)) ((c .before .before .before .before .before .before .before .before .before .before .before .before .before .before) .pre .1) ((c .before .before .before .before .before .before .before .before .before .before .before .before .before .before) .pre .2) _ ((c .before .before .before .before .before .before .before .before .before .before .before .before .before .before) .pre .0) ((c .before .before .before .before .before .before .before .before .before .before) .goes-on .ensures (not-false _ ((c .before .before .before .before .before .before .before .before .before) .if1 .left))) ((c .before .before .before .before .before .before .before) .if2 .left) (omega arith) _ (sym (ap stackAnswer ((c .before) .after .given .1)) ∙ (c .before .before .before) .depth-after .ensures)
+returns-4 c = row-led ((c .before .before .before .before .before .before .before .before .before .before .before .before .before .before) .args .program .now) _ _ _ (λ j. omega (arith, (c .before .before .before .before .before .before .before .before .before .before .before .before) .shared-slice-known2 .given j)) ((c .before .before .before .before .before .before .before .before .before .before .before .before .before .before) .pre .1) ((c .before .before .before .before .before .before .before .before .before .before .before .before .before .before) .pre .2) _ ((c .before .before .before .before .before .before .before .before .before .before .before .before .before .before) .pre .0) ((c .before .before .before .before .before .before .before .before .before .before) .goes-on .ensures .0 (not-false _ ((c .before .before .before .before .before .before .before .before .before) .if1 .left))) ((c .before .before .before .before .before .before .before) .if2 .left) (omega arith) _ (sym (ap stackAnswer ((c .before) .after .given .1)) ∙ (c .before .before .before) .depth-after .ensures)
 
 returns-5 : tie.Need-returns-5
-returns-5 c = row-led ((c .before .before .before .before .before .before .before .before .before .before .before .before .before .before) .args .program .now) _ _ _ (λ j. omega (arith, (c .before .before .before .before .before .before .before .before .before .before .before .before) .shared-slice-known2 .given j)) ((c .before .before .before .before .before .before .before .before .before .before .before .before .before .before) .pre .1) ((c .before .before .before .before .before .before .before .before .before .before .before .before .before .before) .pre .2) _ ((c .before .before .before .before .before .before .before .before .before .before .before .before .before .before) .pre .0) ((c .before .before .before .before .before .before .before .before .before .before) .goes-on .ensures (not-false _ ((c .before .before .before .before .before .before .before .before .before) .if1 .left))) ((c .before .before .before .before .before .before .before) .if2 .left) (omega arith) _ (sym (ap stackAnswer ((c .before) .number .given .1)) ∙ (c .before .before .before) .depth-after .ensures)
+returns-5 c = row-led ((c .before .before .before .before .before .before .before .before .before .before .before .before .before .before) .args .program .now) _ _ _ (λ j. omega (arith, (c .before .before .before .before .before .before .before .before .before .before .before .before) .shared-slice-known2 .given j)) ((c .before .before .before .before .before .before .before .before .before .before .before .before .before .before) .pre .1) ((c .before .before .before .before .before .before .before .before .before .before .before .before .before .before) .pre .2) _ ((c .before .before .before .before .before .before .before .before .before .before .before .before .before .before) .pre .0) ((c .before .before .before .before .before .before .before .before .before .before) .goes-on .ensures .0 (not-false _ ((c .before .before .before .before .before .before .before .before .before) .if1 .left))) ((c .before .before .before .before .before .before .before) .if2 .left) (omega arith) _ (sym (ap stackAnswer ((c .before) .number .given .1)) ∙ (c .before .before .before) .depth-after .ensures)
 
 pub look-at-spec : {M : Type 1} → statement M
 look-at-spec =
