@@ -3,6 +3,7 @@
 .PHONY: run test host c-example soak fuzz
 
 library = target/staticlib/libkhalixoshi.a
+families = $(shell sed -n 's/^\(face_[a-z_]*\):.*/\1/p' crates.txt)
 N = 10000000
 SEED = 2
 SECONDS = 600
@@ -16,16 +17,16 @@ run: host
 test:
 	@.ci/run
 
-# The proved library for x86-64, as C and Rust link it: rt proves its crate before it is built.
-$(library): $(shell find crates -path '*/src/*.rt')
+# The proved library for x86-64, as C and Rust link it: rt proves each family of its face before that is built; then they are merged.
+$(library): crates.txt tools/archive $(shell find crates -path '*/src/*.rt')
 	@echo "building libkhalixoshi.a: its crates are proved first, which takes some minutes" >&2
-	@mkdir -p target && rt staticlib khalixoshi >target/staticlib.log 2>&1 || { cat target/staticlib.log; exit 1; }
-	@touch $@
+	@mkdir -p target && (for family in $(families); do rt staticlib $$family || exit 1; done) >target/staticlib.log 2>&1 || { cat target/staticlib.log; exit 1; }
+	@tools/archive $(families)
 
 # The same code for this processor, where it is no x86-64, to be timed.
 target/native/libkhalixoshi.a: $(library)
-	@echo "compiling the library for this processor: its last crate is proved again, which takes half a minute" >&2
-	@tools/native
+	@echo "compiling the library for this processor: its face is proved again, which takes a minute" >&2
+	@tools/native $(families)
 
 host: $(library)
 	@tools/host build --quiet --release -p khx -p trials

@@ -15,8 +15,8 @@ fn main() {
     println!("cargo:rerun-if-changed={}", archive.display());
     if !archive.is_file() {
         refuse(&format!(
-            "{} is not there. Build it with `rt staticlib khalixoshi` at the repository's root, \
-             or name the folder that holds libkhalixoshi.a in {FOLDER}.",
+            "{} is not there. Build it with `make target/staticlib/libkhalixoshi.a` at the \
+             repository's root, or name the folder that holds libkhalixoshi.a in {FOLDER}.",
             archive.display()
         ));
     }
