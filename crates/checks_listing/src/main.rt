@@ -94,7 +94,7 @@ fn say_decoded(answer: Decoded) {
 
 // What stands at an address; at the start it is the first that a new reader gives.
 fn ask_reader(program: &[u8], at: usize) -> usize {
-    let turn = reader::turn_at(program, at);
+    let turn = reader::asked(program, at);
     let answer = turn.answer;
     if at == 0 {
         say_decoded(reader::first(program));

@@ -38,14 +38,16 @@ pub fn new<'a>(program: &'a [u8]) -> Reader<'a>
 pub fn peek<'a>(r: Reader<'a>) -> Decoded
     ensures { λ d. ⌜ decodedAnswer d ≡ decodeOf (now (r .entry .program)) (r .entry .at) ⌝ }
 {
-    isa::decode(r.program, r.at)
+    let at = r.at;
+    isa::decode(r.program, at)
 }
 
 // What stands where a reader is; the reader moves past it, and on a refusal it stays.
 pub fn next<'s, 'a>(r: &'s mut Reader<'a>) -> Decoded
     ensures { λ d. ⌜ (now (r .exit) .program ≡ now (r .entry) .program) × (turnAnswer d (now (r .exit) .at) ≡ turnOf (now (now (r .entry) .program)) (now (r .entry) .at)) ⌝ }
 {
-    let t = turn_at(r.program, r.at);
+    let before = r.at;
+    let t = turn_at(r.program, before);
     r.at = t.at;
     t.answer
 }
@@ -54,5 +56,16 @@ pub fn next<'s, 'a>(r: &'s mut Reader<'a>) -> Decoded
 pub fn first(program: &[u8]) -> Decoded
     ensures { λ d. ⌜ decodedAnswer d ≡ decodeOf (now (program .entry)) 0 ⌝ }
 {
-    peek(new(program))
+    peek(Reader { program, at: 0 })
+}
+
+// What a reader that stands at an address gives, and where it then stands; a caller of this holds no reader.
+pub fn asked(program: &[u8], at: usize) -> Turn
+    ensures { λ t. ⌜ turnAnswer (t .answer) (t .at) ≡ turnOf (now (program .entry)) at ⌝ }
+{
+    let mut r = new(program);
+    r.at = at;
+    let answer = next(&mut r);
+    let after = r.at;
+    Turn { answer, at: after }
 }
