@@ -8,8 +8,8 @@ other counts. In all of them the statement is well formed and the proof does not
              equation, or in what the function ensures
   cc         the known equations do not join the two sides of an equation
   search     nothing that is known gives the statement
-  statement  what the proof shows is another statement than the one asked: two equations or inequalities, or two statements that first
-             differ in a value, or so late that only their beginning is printed
+  statement  what the proof shows is another statement than the one asked: two equations or inequalities (or two of them, joined alike),
+             or two statements that first differ in a value, or so late that only their beginning is printed
   no file    no error is left, a function has no proof file, and the prover's own search does not close the fact that the log names, such
              as that what the function ensures holds when it returns; every other function that is not proved calls it
 So a name that is not found, a term of another type (a state where a list is expected), an invariant or a measure that no longer fits
@@ -72,14 +72,35 @@ def is_value(term):
     return bool(re.fullmatch(r"\d+|\.\w\S*", head) or ".the-variants." in head or re.match(r"[a-zα-ω_\[]", name))
 
 
+def parts(term):
+    """A printed term as its words and bracketed parts."""
+    found, depth, begin = [], 0, 0
+    for at, sign in enumerate(term + " "):
+        depth += {"(": 1, ")": -1}.get(sign, 0)
+        if sign == " " and depth == 0:
+            found += [term[begin:at]] if term[begin:at] else []
+            begin = at + 1
+    return found
+
+
 def relation(term):
-    """The relation that a printed type states: that of an equation, with the type of its sides where it is printed, or of an inequality."""
-    written = re.match(r"(?:\S+\.)?(Path (?:\([^()]*\)|\S+)|_[≡≤<≢]_) ", term.strip())
-    flat = term
-    while re.search(r"\([^()]*\)", flat):
-        flat = re.sub(r"\([^()]*\)", "", flat)
-    between = re.findall(r" ([≡≤<≢]) ", flat)
-    return written.group(1) if written else between[0] if len(between) == 1 else None
+    """What a printed type states, without the values: an equation (with the type of its sides where it is printed), an inequality, or two
+    statements of which one holds or both do; None for any other type."""
+    words = parts(term.strip())
+    if len(words) == 1 and words[0].startswith("(") and words[0].endswith(")"):
+        return relation(words[0][1:-1])
+    head = words[0].split(".")[-1] if words else ""
+    if head == "Path" and len(words) == 4:
+        return f"Path {words[1]}"
+    if head in ("_≡_", "_≤_", "_<_", "_≢_") and len(words) == 3:
+        return head.strip("_")
+    joined = [(words[1], head.strip("_"), words[2])] if head in ("_⊎_", "_×_") and len(words) == 3 else []
+    joined += [(" ".join(words[:at]), sign, " ".join(words[at + 1:])) for at, sign in enumerate(words) if sign in ("⊎", "×")][:1]
+    if joined:
+        left, sign, right = joined[0]
+        return f"({relation(left)} {sign} {relation(right)})" if relation(left) and relation(right) else None
+    between = [sign for sign in words if sign in ("≡", "≤", "<", "≢")]
+    return between[0] if len(between) == 1 else None
 
 
 def form_of(declaration, said):

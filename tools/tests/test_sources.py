@@ -243,7 +243,9 @@ class Edits(Case):
         self.assertIsNone(refusals.first(DIFFER.format("35", "36") + shifted).form)
         for one, other, form in (
             ("Path ℕ 0 1", "Path ℕ 0 0", "statement"), ("a .cells ≤ 1024", "a .cells ≤ 1025", "statement"), ("Path ℕ 0 1", "Path (List ℕ) x y", None),
-            ("a ≤ 1", "a < 1", None), ("mathlib.Core.List.List ℕ", "Rattle.m.specs.declared.State.State", None),
+            ("a ≤ 1", "a < 1", None), ("m.Logic._⊎_ (Path ℕ k 6) (Path ℕ k 6)", "m.Logic._⊎_ (Path ℕ k 6) (Path ℕ k 7)", "statement"),
+            ("(a ≤ 1) × (b ≡ 2)", "(a ≤ 1) × (b ≡ 3)", "statement"), ("m.Logic._⊎_ (Path ℕ k 6) State", "m.Logic._⊎_ (Path ℕ k 6) State", None),
+            ("a ≤ 1", "m.Logic._⊎_ (Path ℕ k 6) (Path ℕ k 7)", None), ("mathlib.Core.List.List ℕ", "Rattle.m.specs.declared.State.State", None),
         ):
             self.assertEqual(refusals.first(ARE.format(one, other)).form, form, msg=(one, other))
 
