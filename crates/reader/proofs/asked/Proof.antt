@@ -251,7 +251,7 @@ module _ {M : Type 1} (𝓤 : URA M) (H : Heap 𝓤) (A : Atoms 𝓤) (W : Given
         rewrite ! 0 (λ (ws : List Val). ‵ (R κ .own r ws)) (LL.tells (D 𝓤 H A W κ) (L 𝓤 H A W κ) r (u ∷ []) is) refl $
         peeks ! (R κ) (Is (R κ)) (shows 𝓤 H A (R κ)) r (T′.lowered r ∷ []) (λ was.
         assigns ! (of-opd ! (load ! (from ! (stop !)) (look ! 4 refl))) (from ! (stop !)) (init ! 10 refl (LL.lawful (T.the-type (αᵉ κ)) (T′.the-laws (αᵉ κ)) 𝓤 H A W .typed r _ was .0)) $
-        assigns ! (of-opd ! (reads ! (place 2 []) (lastIn lines.s-3) m tt (load ! (from ! (stop !)) (look ! 12 refl)))) (from ! (fld ! refl (stop !))) (store-in ! 10 (sub ! 1 refl (whole !)) (tt, record { fits = ok })) $
+        assigns ! (of-opd ! (reads ! (place 2 []) (lastIn lines.s-3) m tt (load ! (from ! (stop !)) (look ! 12 refl)))) (from ! (fld ! {d = 16} refl (stop !))) (store-in ! 10 (sub ! 1 {d = 16} refl (whole !)) (tt, record { fits = ok })) $
         assigns ! (addr ! (from ! (stop !))) (from ! (stop !)) (init ! 2 refl (tt, tt)) $
         -- the reader is lent for a new lifetime
         use1 W (‵ (R κ .own (h r) (T′.lowered (h r) ∷ []))) (puts 𝓤 H A W κ r n ok) $ move ! (10 ∷ []) $ use2 W (‵ (partAt (R κ) fullShare (h r) l₃ 0)) (lies 𝓤 H A W κ (h r) l₃) $
@@ -277,7 +277,7 @@ module _ {M : Type 1} (𝓤 : URA M) (H : Heap 𝓤) (A : Atoms 𝓤) (W : Given
         -- [_3; the token; _7; …; _6; …; _5; …; _4; …; what _3 leaves; _2; …; _1; …; room for _0; …]
         let fits′ = number-fits (lastIn lines.s-6) (ws .0 .at) tt (then .1 .1 .1 .0 .1) in
         let has-t = LL.owes S.the-type S′.the-laws (t d (ws .0)) (got, ((refl, fits′), tt)) in
-        assigns ! (of-opd ! (reads ! (place 3 (field 1 ∷ [])) (lastIn lines.s-6) (ws .0 .at) tt (load ! (from ! (fld ! refl (stop !))) (look-in ! 0 (sub ! 1 refl (whole !)))))) (from ! (stop !)) (init ! 6 refl (tt, record { fits = fits′ })) $
+        assigns ! (of-opd ! (reads ! (place 3 (field 1 ∷ [])) (lastIn lines.s-6) (ws .0 .at) tt (load ! (from ! (fld ! {d = 16} refl (stop !))) (look-in ! 0 (sub ! 1 {d = 16} refl (whole !)))))) (from ! (stop !)) (init ! 6 refl (tt, record { fits = fits′ })) $
         assigns ! (agg ! (and-then ! (load ! (from ! (stop !)) (look ! 8 refl)) (and-then ! (load ! (from ! (stop !)) (look ! 6 refl)) (no-more !)))) (from ! (stop !)) (init ! 15 refl (LL.lawful S.the-type S′.the-laws 𝓤 H A W .typed (t d (ws .0)) _ has-t .0)) $
         returns ! (look ! 15 refl) $ forget ! 0 refl $ forget ! 2 refl $ forget ! 4 refl $ forget ! 6 refl $ forget ! 8 refl $ forget ! 11 refl $ forget ! 13 refl $ forget ! 15 refl $
         move ! (15 ∷ 16 ∷ []) $ free1 ! $ move ! (13 ∷ 14 ∷ []) $ free1 ! $ move ! (11 ∷ 12 ∷ []) $ free1 ! $ move ! (0 ∷ 10 ∷ []) $ free1 ! $
