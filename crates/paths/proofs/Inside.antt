@@ -1,6 +1,7 @@
 -- Where the walk refuses: at an address of the program; the empty program is 1 at 0.
 -- Assumes nothing.
 use Prim.Native.Nat.{ℕ, zero, suc, _<_}
+use native.Mathlib.Omega.{arith}
 use mathlib.Core.Path.{_≡_, refl, ap, _∙_, subst}
 use mathlib.Core.Logic.{_⊎_, inl, inr}
 use mathlib.Core.List.{List}
@@ -22,10 +23,10 @@ module _ (clash : ℕ → ℕ → ℕ) (look : ℕ → ℕ → Outcome) where
   module _ (ms : List Mark) (a d : ℕ) (h : a < length ms) where
     met-within : (hs : List Hop) (r : Meeting) → Right clash (set ms a (examined d)) hs r → WithinTurn (length ms) (turned a r)
     met-within hs (kept later) k = k .ext .len ∙ length-set ms a (examined d)
-    met-within hs (broke j) k = h
+    met-within hs (broke j) k = omega arith
 
     examined-within : (o : Outcome) → WithinTurn (length ms) (examine clash ms a d o)
-    examined-within (bad k) = h
+    examined-within (bad k) = omega arith
     examined-within (leads hs) = met-within hs (meets clash (set ms a (examined d)) hs) (meets-right clash (set ms a (examined d)) hs)
 
   turn-within : (ms : List Mark) → WithinTurn (length ms) (turn clash look ms)
