@@ -153,7 +153,7 @@ RefusesExactly =
     ((program : List ℕ) (at n : ℕ) → Bytes program → decodeOf program at ≡ refused n → Why program at n)
     × ((program : List ℕ) (at n : ℕ) → Why program at n → decodeOf program at ≡ refused n)
 
--- What is read has one byte at least and ends inside the program; so does the place that a reader moves to.
+-- What is read has one byte at least and ends inside the program: a reader moves on, and never past the end.
 unfoldable pub ReadsInside : Type 0
 ReadsInside = (program : List ℕ) (at n : ℕ) (i : Instruction) → decodeOf program at ≡ given (i, n) → (0 < n) × (at + n ≤ length program)
 
@@ -193,7 +193,8 @@ FindsExactly =
     × ((tag : ℕ) (e : Entry) → findOf s tag ≡ given e → (e .tag ≡ tag) × Among (ruleOf s e) (w .rules) × Inside s e)
     × ((tag : ℕ) → ((r : Rule) → Among r (w .rules) → r .tag ≡ tag → ⊥) → findOf s tag ≡ refused 36)
 
--- What is told of a pack is told of what it holds: a count of at most 64, and entries, by index or by tag, whose bytes lie inside it.
+-- Whatever the bytes of a pack are, it counts at most 64 entries, and the bytes that an entry names, asked for by its index or by its
+-- tag, lie inside the pack.
 unfoldable pub EntriesLieInside : Type 0
 EntriesLieInside =
     ((s : List ℕ) (n : ℕ) → seen length (readOf s) ≡ given n → n ≤ 64)

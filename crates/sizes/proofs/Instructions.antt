@@ -1,22 +1,22 @@
 -- No instruction is longer than 9 bytes, and one is as long.
 -- Assumes nothing.
-use Prim.Native.Nat.{ℕ, _+_, _^_, _≤_, _<_}
+use Prim.Native.Nat.{ℕ, _+_, _^_, _≤_}
 use native.Mathlib.Omega.{arith}
-use mathlib.Core.Path.{_≡_, refl, ap, subst}
+use mathlib.Core.Path.{_≡_, refl, ap}
 use mathlib.Core.Bool.{Bool, true, false}
 use mathlib.Core.List.{List, [], _∷_}
 use lib.Count.{ones, ones-le}
 use lib.Dec.{ltb, leb, eqb}
 use lib.ListN.{length, getD, drop}
-use borrow.Author.Tests.{eqb-true, eqb-false}
+use borrow.Author.Tests.{eqb-true}
 use Rattle.basis.specs.Pick.{pick, both}
 use Rattle.basis.specs.Answer.{given, refused}
 use Rattle.basis.specs.Room.{fitted}
 use Rattle.basis.proofs.Tests.{refused-given, given-one}
-use Rattle.forms.specs.Form.{formOf, codeOf, widthIn, limitIn, countIn, flagsIn, lengthIn, lengthOf, valueWidth}
+use Rattle.forms.specs.Form.{formOf, codeOf, widthIn, limitIn, countIn, flagsIn, lengthOf, valueWidth}
 use Rattle.forms.specs.declared.Form.{Form}
 use Rattle.forms.specs.declared.Form.the-variants.{Plain, Byte, Shift, Word, Short, Values, Illegal}
-use Rattle.forms.proofs.Widths.{count-le, flags-lt, legal}
+use Rattle.forms.proofs.Widths.{count-le, flags-lt}
 use Rattle.isa.specs.Decode.{Reading, numberIn, instructionIn, headOf, decodeOf}
 use Rattle.isa.specs.declared.Instruction.{Instruction}
 use Rattle.encoder.specs.Encode.{countGood, valuesGood, wellFormed, bytesIn, encodedOf, encodeOf}

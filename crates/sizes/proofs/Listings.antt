@@ -3,7 +3,7 @@
 -- Assumes nothing.
 use Prim.Native.Nat.{ℕ, zero, suc, _+_, _-_, _*_, _≤_, _<_}
 use native.Mathlib.Omega.{arith}
-use mathlib.Core.Path.{_≡_, refl, ap, _∙_, subst}
+use mathlib.Core.Path.{_≡_, refl, _∙_, subst}
 use mathlib.Core.Bool.{Bool, true, false}
 use mathlib.Core.List.{List, [], _∷_, _++_}
 use lib.Count.{ones}
@@ -20,7 +20,6 @@ use Rattle.forms.specs.declared.Form.{Form}
 use Rattle.forms.specs.declared.Form.the-variants.{Plain, Byte, Shift, Word, Short, Values, Illegal}
 use Rattle.forms.proofs.Widths.{count-le, widths-sum, legal}
 use Rattle.isa.specs.Decode.{Reading, numberIn, instructionIn, headOf}
-use Rattle.isa.specs.declared.Instruction.{Instruction}
 use Rattle.text.proofs.Puts.{length-hex}
 use Rattle.names.specs.Names.{placeOf, nameOf}
 use Rattle.lines.specs.Line.{operandOf, shownIn, operandsOf, saidOf, stepOf, lineOf}

@@ -2,9 +2,9 @@
 -- Assumes nothing.
 use Prim.Native.Nat.{ℕ, zero, suc, _+_, _*_, _≤_}
 use native.Mathlib.Omega.{arith}
-use mathlib.Core.Path.{_≡_, refl, sym, ap, ap₂, _∙_}
+use mathlib.Core.Path.{_≡_, refl, ap, ap₂, _∙_}
 use mathlib.Core.Bool.{Bool, true, false}
-use mathlib.Core.List.{List, [], _∷_, _++_}
+use mathlib.Core.List.{List, [], _∷_}
 use lib.Count.{ones}
 use lib.Dec.{ltb}
 use lib.ListN.{length, replicate, length-append}
@@ -20,7 +20,6 @@ use Rattle.paths.specs.Walk.{walk, turns, turn, lowest, meets, meet}
 use Rattle.look.specs.Look.{lookOf}
 use Rattle.verifier.specs.Verify.{Judged, names, verifyOf}
 use Rattle.pack.specs.Read.{readOf}
-use Rattle.pack.specs.Find.{bodyOf}
 use Rattle.pack.specs.declared.Entry.{Entry}
 use Rattle.verdicts.specs.Line.{decimalOf, refusedOf, saidOf, lineOf}
 use Rattle.verdicts.proofs.Lines.{length-line, length-pack-line}

@@ -9,8 +9,8 @@ use Rattle.isa.specs.Decode.{decodeOf}
 use Rattle.isa.specs.declared.Instruction.{Instruction}
 use Rattle.encoder.specs.Encode.{encodeOf}
 use Rattle.listing.specs.Listing.{listOf}
-use Rattle.packer.specs.Write.{writeOf}
-use Rattle.report.specs.Report.{writeOf as reportOf}
+use Rattle.packer.specs.Write.{writeOf as writePack}
+use Rattle.report.specs.Report.{writeOf as writeReport}
 
 -- a room of `most` bytes is enough for whatever a function writes of an A: in it, and in any larger, 25 is never the answer; it is the
 -- answer for some A in every smaller one; and what was written is no longer than the room, nor than that
@@ -40,8 +40,8 @@ pub record Parts : Type 0 where
 
 -- KHX_PACK_MAX: 24,576 bytes of room are enough for a pack
 unfoldable pub PackMax : Type 0
-PackMax = Enough Parts (λ p room. writeOf (p .tags) (p .cells) (p .lengths) (p .bodies) room) 24576
+PackMax = Enough Parts (λ p room. writePack (p .tags) (p .cells) (p .lengths) (p .bodies) room) 24576
 
 -- KHX_REPORT_MAX: 1,536 bytes of room, 24 for each of 64 lines, are enough for the report on any bytes, with a map of any cells
 unfoldable pub ReportMax : Type 0
-ReportMax = Enough (List ℕ × ℕ) (λ a room. reportOf (a .0) (a .1) room) 1536
+ReportMax = Enough (List ℕ × ℕ) (λ a room. writeReport (a .0) (a .1) room) 1536
