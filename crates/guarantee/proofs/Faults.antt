@@ -20,23 +20,23 @@ use Rattle.machine.specs.Trace.{faulted, Took, none, more, Ends, paused, stoppe
 use Rattle.machine.specs.declared.State.{State}
 use Rattle.machine.specs.declared.Status.{Status}
 use Rattle.machine.specs.declared.Status.the-variants.{Running, Halted, Faulted}
-use Rattle.guarantee.specs.Demands.{FaultedBy, faultedBy}
+use Rattle.guarantee.specs.Demands.{FaultedBy, withFault}
 
 -- a fault
-pub fault-alters : (program : List ℕ) (m : Machine) → faulted (stepOf program m) ≡ true → (n : ℕ) × (stepOf program m ≡ faultedBy n m)
+pub fault-alters : (program : List ℕ) (m : Machine) → faulted (stepOf program m) ≡ true → (n : ℕ) × (stepOf program m ≡ withFault n m)
 unfolding stepOf
 fault-alters program m h =
     let d = actOf program (m .state .address) (m .state .depth) (m .mem) (m .cells) in
     by (d .move) (d .mem) (d .cells) (act-still program (m .state .address) (m .state .depth) (m .mem) (m .cells)) h
   where
     by : (made : Move) (mem cells : List ℕ) → (isFault made ≡ true → (mem ≡ m .mem) × (cells ≡ m .cells)) → isFaulted (stateAfter (m .state) made .status) ≡ true
-        → (n : ℕ) × (landed (m .state) (done made mem cells) ≡ faultedBy n m)
+        → (n : ℕ) × (landed (m .state) (done made mem cells) ≡ withFault n m)
     by (To a e) mem cells k f = absurd (false-true f)
     by (Halt z e) mem cells k f = absurd (false-true f)
     by (Fault n z) mem cells k f = (n, ap₂ (λ (x y : List ℕ). machine (stateAfter (m .state) (Fault n z)) x y) (k refl .0) (k refl .1))
 
 -- where nothing is read
-pub unread-alters : (program : List ℕ) (m : Machine) (n : ℕ) → decodeOf program (m .state .address) ≡ refused n → stepOf program m ≡ faultedBy n m
+pub unread-alters : (program : List ℕ) (m : Machine) (n : ℕ) → decodeOf program (m .state .address) ≡ refused n → stepOf program m ≡ withFault n m
 unfolding stepOf actOf
 unread-alters program m n e = rw e
 

@@ -99,15 +99,15 @@ FaultsByNumber =
     → FaultedBy (m′ .state .status)
 
 -- the machine with no byte and no cell altered, and of its state only the status: faulted by this number
-abbrev pub faultedBy : ℕ → Machine → Machine
-faultedBy n m = machine (record { address = m .state .address; depth = m .state .depth; status = Faulted n }) (m .mem) (m .cells)
+abbrev pub withFault : ℕ → Machine → Machine
+withFault n m = machine (record { address = m .state .address; depth = m .state .depth; status = Faulted n }) (m .mem) (m .cells)
 
 -- "A fault alters only the status", of any machine at any address; where no instruction is read, the step is the decoder's
--- refusal, 1, 2 or 3, as a fault.
+-- refusal as a fault (in a program of an allowed size 1, 2 or 3).
 unfoldable pub FaultAltersStatus : Type 0
 FaultAltersStatus =
-    ((program : List ℕ) (m : Machine) → faulted (stepOf program m) ≡ true → (n : ℕ) × (stepOf program m ≡ faultedBy n m))
-    × ((program : List ℕ) (m : Machine) (n : ℕ) → decodeOf program (m .state .address) ≡ refused n → stepOf program m ≡ faultedBy n m)
+    ((program : List ℕ) (m : Machine) → faulted (stepOf program m) ≡ true → (n : ℕ) × (stepOf program m ≡ withFault n m))
+    × ((program : List ℕ) (m : Machine) (n : ℕ) → decodeOf program (m .state .address) ≡ refused n → stepOf program m ≡ withFault n m)
 
 -- "No address sum wraps": a step that does not fault has the ranges of its instruction inside the memories, their sums being
 -- whole numbers; every byte outside the range that it names, and every cell outside those that it pushes into, keeps what it
