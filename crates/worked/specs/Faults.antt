@@ -63,8 +63,8 @@ abbrev pub fewer : ℕ → ℕ → Example
 fewer depth code =
     runs (replicate depth 0x80 ++ (code ∷ 0x00 ∷ 0x00 ∷ [])) [] (0 ∷ 0 ∷ 0 ∷ []) (came (machine (at depth depth (Faulted 4)) [] (0 ∷ 0 ∷ 0 ∷ [])) depth)
 
--- "4 fewer values than are taken": every code that takes one, two and three values, with one fewer; before 6 and 8, and before 5 with no more cells than
--- the values taken
+-- "4 fewer values than are taken": every code that takes one, two and three values, with one fewer; before 6 and 8. In the last four there are fewer
+-- cells than values pushed, so that a difference that stopped at 0 would give 5
 abbrev pub few : List Example
 few =
     map (fewer 0)
