@@ -4,3 +4,4 @@ pub mod Answers
 pub mod Refuses
 pub mod Table
 pub mod Lengths
+mod Heads
