@@ -6,7 +6,7 @@ use mathlib.Core.Path.{_≡_, sym}
 use mathlib.Core.Bool.{Bool, true}
 use mathlib.Core.List.{List, _∷_, _++_}
 use lib.Count.{ones}
-use lib.ListN.{length, set, length-append}
+use lib.ListN.{length, set, length-append, length-set}
 use lib.Seq.{sets}
 use lib.Dec.{ltb, leb}
 use borrow.Author.Tests.{lt-ltb, ltb-true, leb-true, eqb-true}
@@ -18,9 +18,9 @@ use Rattle.basis.proofs.Stores.{sets-bytes}
 use Rattle.forms.specs.Form.{formOf, widthIn, limitIn, width0, width1, width2, width3}
 use Rattle.forms.specs.declared.Form.{Form}
 use Rattle.forms.specs.declared.Form.the-variants.{Plain, Byte, Shift, Word, Short, Values, Illegal}
-use Rattle.forms.proofs.Widths.{widths-sum, flags-below}
+use Rattle.forms.proofs.Widths.{width-le, widths-sum, flags-below}
 use Rattle.isa.specs.declared.Instruction.{Instruction}
-use Rattle.encoder.specs.Encode.{countGood, valuesGood, wellFormed, valueBytes, bytesIn, encodedOf}
+use Rattle.encoder.specs.Encode.{countGood, valuesGood, wellFormed, firstIn, valueBytes, bytesIn, encodedOf}
 
 pub count-good-le : (f : Form) (n : ℕ) → countGood f n ≡ true → n ≤ 4
 count-good-le Plain n h = omega (arith, eqb-true n 0 h)
@@ -94,6 +94,33 @@ length-well i w = omega (arith, length-encoded i, widths-sum (i .count) (i .flag
 
 pub put-two : (l x₁ x₂ ys : List ℕ) (a w v : ℕ) → x₁ ≡ sets (set l 0 a) 1 (bytesOf w v) → x₂ ≡ sets x₁ (1 + w) ys → x₂ ≡ sets l 0 (a ∷ (bytesOf w v ++ ys))
 put-two l x₁ x₂ ys a w v p q = rw (q, p) (sym (sets-bytes (set l 0 a) ys 1 w v))
+
+-- the width, the first byte and the parts of the room as locals hold them
+module _ (i : Instruction) (w : ℕ) (f : Form) (ew : w ≡ widthIn f) (ef : f ≡ formOf (i .code)) where
+  pub own-width : w ≡ widthIn (formOf (i .code))
+  own-width = rw (← ef) ew
+
+  pub room-number : (l : List ℕ) (a : ℕ) → length (encodedOf i) ≤ length l → (w ≤ 2) × (1 + w ≤ length (set l 0 a))
+  room-number l a h =
+      let e = own-width in
+      let k = width-le (formOf (i .code)) in
+      let n = length-encoded i in
+      (omega arith, rw length-set (omega arith))
+
+  pub room-values : (l x : List ℕ) (a : ℕ) → length (encodedOf i) ≤ length l → length x ≡ length (set l 0 a)
+      → 1 + w + width0 (i .count) (i .flags) + width1 (i .count) (i .flags) + width2 (i .count) (i .flags) + width3 (i .count) (i .flags) ≤ length x
+  room-values l x a h k =
+      let e = own-width in
+      let n = length-encoded i in
+      let m : length x ≡ length l = rw length-set at k in
+      omega arith
+
+  pub put-encoded : (l x₁ x₂ : List ℕ) (a : ℕ) → a ≡ firstIn (formOf (i .code)) i → x₁ ≡ sets (set l 0 a) 1 (bytesOf w (i .number)) → x₂ ≡ sets x₁ (1 + w) (valueBytes i) → x₂ ≡ sets l 0 (encodedOf i)
+  unfolding bytesIn
+  put-encoded l x₁ x₂ a ea e₁ e₂ = rw (← own-width, ← ea) (put-two l x₁ x₂ (valueBytes i) a w (i .number) e₁ e₂)
+
+pub room-first : (i : Instruction) (n : ℕ) → length (encodedOf i) ≤ n → 0 < n
+room-first i n h = omega (arith, length-encoded i)
 
 pub well-back : (i : Instruction) → WellFormed i → wellFormed i ≡ true
 unfolding wellFormed valuesGood

@@ -5,3 +5,4 @@ pub mod Refuses
 pub mod Numbers
 pub mod Table
 pub mod Lengths
+mod Heads

@@ -1,6 +1,6 @@
 -- Laws of operands and lines: their lengths, and how they are put.
 -- Assumes nothing.
-use Prim.Native.Nat.{ℕ, zero, suc, _+_, _≤_}
+use Prim.Native.Nat.{ℕ, zero, suc, _+_, _/_, _≤_}
 use native.Mathlib.Omega.{arith}
 use mathlib.Core.Path.{_≡_, refl, sym, ap, _∙_}
 use mathlib.Core.List.{List, _++_}
@@ -9,6 +9,7 @@ use Rattle.basis.specs.Answer.{Answer, given, refused}
 use Rattle.forms.specs.Form.{formOf, width0, width1, width2, width3}
 use Rattle.forms.specs.declared.Form.{Form}
 use Rattle.forms.specs.declared.Form.the-variants.{Plain, Byte, Shift, Word, Short, Values, Illegal}
+use Rattle.forms.proofs.Widths.{value-width-le}
 use Rattle.isa.specs.Decode.{Reading, decodedAnswer}
 use Rattle.isa.specs.declared.Instruction.{Instruction}
 use Rattle.isa.specs.declared.Decoded.{Decoded}
@@ -49,13 +50,38 @@ pub length-operands : (i : Instruction) → length (operandsOf i) ≡
 unfolding operandsOf
 length-operands i = simp length-append
 
+-- the widths of an instruction's operands as locals hold them
+module _ (i : Instruction) (f : Form) (w w0 w1 w2 w3 : ℕ) (ef : f ≡ formOf (i .code)) (e : w ≡ shownIn f)
+    (e0 : w0 ≡ width0 (i .count) (i .flags)) (e1 : w1 ≡ width1 (i .count) (i .flags)) (e2 : w2 ≡ width2 (i .count) (i .flags)) (e3 : w3 ≡ width3 (i .count) (i .flags)) where
+  shown-lengths : length (operandsOf i)
+      ≡ length (operandOf w (i .number)) + (length (operandOf w0 (i .v0)) + (length (operandOf w1 (i .v1)) + (length (operandOf w2 (i .v2)) + length (operandOf w3 (i .v3)))))
+  shown-lengths = rw (e, ef, e0, e1, e2, e3) (length-operands i)
+
+  pub length-all : (n n0 n1 n2 n3 : ℕ) → n ≡ length (operandOf w 0) → n0 ≡ length (operandOf w0 0) → n1 ≡ length (operandOf w1 0) → n2 ≡ length (operandOf w2 0) → n3 ≡ length (operandOf w3 0)
+      → n + n0 + n1 + n2 + n3 ≡ length (operandsOf i)
+  length-all n n0 n1 n2 n3 p p0 p1 p2 p3 =
+      omega (arith, shown-lengths, length-operand w (i .number), length-operand w0 (i .v0), length-operand w1 (i .v1), length-operand w2 (i .v2), length-operand w3 (i .v3))
+
+  -- the places where they are put, one after the other, are in the room
+  module _ (at n : ℕ) (h : at + length (operandsOf i) ≤ n) where
+    pub room-number : (w ≤ 2) × (at + length (operandOf w 0) ≤ n)
+    room-number = (rw e (shown-le f), omega (arith, shown-lengths, length-operand w (i .number)))
+
+    pub room-first : (a m : ℕ) → a ≡ at + length (operandOf w (i .number)) → m ≡ n → (w0 ≤ 2) × (a + length (operandOf w0 0) ≤ m)
+    room-first a m p k = (rw e0 (value-width-le 0 (i .count) (i .flags)), omega (arith, shown-lengths, length-operand w0 (i .v0)))
+
+    pub room-second : (a b m : ℕ) → a ≡ at + length (operandOf w (i .number)) → b ≡ a + length (operandOf w0 (i .v0)) → m ≡ n → (w1 ≤ 2) × (b + length (operandOf w1 0) ≤ m)
+    room-second a b m p q k = (rw e1 (value-width-le 1 (i .count) (i .flags / 2)), omega (arith, shown-lengths, length-operand w1 (i .v1)))
+
+    pub room-third : (a b d m : ℕ) → a ≡ at + length (operandOf w (i .number)) → b ≡ a + length (operandOf w0 (i .v0)) → d ≡ b + length (operandOf w1 (i .v1)) → m ≡ n
+        → (w2 ≤ 2) × (d + length (operandOf w2 0) ≤ m)
+    room-third a b d m p q r k = (rw e2 (value-width-le 2 (i .count) (i .flags / 4)), omega (arith, shown-lengths, length-operand w2 (i .v2)))
+
+    pub room-fourth : (a b d g m : ℕ) → a ≡ at + length (operandOf w (i .number)) → b ≡ a + length (operandOf w0 (i .v0)) → d ≡ b + length (operandOf w1 (i .v1))
+        → g ≡ d + length (operandOf w2 (i .v2)) → m ≡ n → (w3 ≤ 2) × (g + length (operandOf w3 0) ≤ m)
+    room-fourth a b d g m p q r t k = (rw e3 (value-width-le 3 (i .count) (i .flags / 8)), omega (arith, shown-lengths, length-operand w3 (i .v3)))
+
 -- an operand of the same width
-pub length-same : (w w′ v : ℕ) → w ≡ w′ → length (operandOf w v) ≡ length (operandOf w′ v)
-length-same w w′ v e = rw e
-
-pub length-shown : (w w′ v : ℕ) → w ≡ w′ → length (operandOf w 0) ≡ length (operandOf w′ v)
-length-shown w w′ v e = rw e (sym (length-operand w′ v))
-
 pub put-same : {at end : ℕ} {room after : List ℕ} (w w′ v : ℕ) → w ≡ w′ → Put (operandOf w v) room at after end → Put (operandOf w′ v) room at after end
 put-same w w′ v e p = rw e at p
 

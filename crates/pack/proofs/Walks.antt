@@ -11,10 +11,17 @@ use lib.Dec.{ltb, eqb}
 use lib.ListN.{length, getElem?}
 use borrow.Author.Tests.{le-ltb, eq-eqb, ne-eqb, ltb-false, eqb-true}
 use Rattle.basis.specs.Answer.{Answer, given, refused}
+use Rattle.basis.specs.Number.{numberAt}
 use Rattle.basis.proofs.Tests.{refused-given}
 use Rattle.pack.specs.Contents.{entryAt, entriesFrom, refusalOf, endOf}
 use Rattle.pack.specs.Find.{soughtIn}
 use Rattle.pack.specs.declared.Entry.{Entry}
+
+-- the four numbers of an entry
+pub entry-read : (s : List ℕ) (at tag cells offset length : ℕ) → tag ≡ numberAt 2 s at → cells ≡ numberAt 2 s (at + 2) → offset ≡ numberAt 2 s (at + 4) → length ≡ numberAt 2 s (at + 6)
+    → _≡_ {A = Entry} record { tag = tag; cells = cells; offset = offset; length = length } (entryAt s at)
+unfolding entryAt
+entry-read s at tag cells offset length t c o l = rw (t, c, o, l)
 
 -- the first of the entries and the others
 pub from-more : (s : List ℕ) (at left : ℕ) → 0 < left → entriesFrom s at left ≡ entryAt s at ∷ entriesFrom s (at + 8) (left - 1)

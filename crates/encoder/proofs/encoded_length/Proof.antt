@@ -1,12 +1,11 @@
 -- `encoder::encoded_length` meets its contract.
 -- Assumes nothing.
 use lib.Count.{ones-le}
-use mathlib.Core.Path.{_≡_, sym}
+use mathlib.Core.Path.{sym}
 use native.Mathlib.Omega.{arith}
 use borrow.Author.Needs.{needs}
-use Rattle.forms.specs.Form.{formOf, widthIn}
 use Rattle.forms.proofs.Widths.{width-le}
-use Rattle.encoder.proofs.Wells.{well, well-count, well-flags, length-well}
+use Rattle.encoder.proofs.Wells.{well, well-count, well-flags, length-well, own-width}
 use Rattle.encoder.proofs.encoded_length.Statement.{statement}
 use Rattle.encoder.proofs.encoded_length.Tie as tie
 
@@ -32,7 +31,8 @@ add-result-3 : tie.Need-add-result-3
 add-result-3 c = let i = c .before .before .before .args .i in omega (arith, width-le (c .before .before .form-of .result), well-count i (well i (c .before .before .before .pre)), ones-le 4 (i .flags) (well-flags i (well i (c .before .before .before .pre))))
 
 returns : tie.Need-returns
-returns c = let i = c .before .before .before .args .i in let e : c .before .width-in .result ≡ widthIn (formOf (i .code)) = cc in rw e (sym (length-well i (well i (c .before .before .before .pre))))
+returns c = let s = c .before .before .before in
+    rw (own-width (s .args .i) _ _ (c .before .width-in .ensures) (c .before .before .form-of .ensures)) (sym (length-well (s .args .i) (well (s .args .i) (s .pre))))
 
 pub encoded-length-spec : {M : Type 1} → statement M
 encoded-length-spec =

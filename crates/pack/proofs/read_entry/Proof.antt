@@ -1,8 +1,8 @@
 -- `pack::read_entry` meets its contract.
 -- Assumes nothing.
-use Prim.Native.Nat.{_-_}
-use Rattle.pack.specs.Contents.{entryAt}
+use denote.Ref.{now}
 use borrow.Author.Needs.{needs}
+use Rattle.pack.proofs.Walks.{entry-read}
 use Rattle.pack.proofs.read_entry.Statement.{statement}
 use Rattle.pack.proofs.read_entry.Tie as tie
 
@@ -28,8 +28,8 @@ number-at-requires-4 : tie.Need-number-at-requires-4
 number-at-requires-4 c κs = search needs
 
 returns : tie.Need-returns
-unfolding entryAt
-returns c = cc
+returns c = let a = c .before .before .before .before .before .args in
+    entry-read (now (a .s)) (a .at) _ _ _ _ (c .before .before .before .number-at .ensures) (c .before .before .number-at2 .ensures) (c .before .number-at3 .ensures) (c .number-at4 .ensures)
 
 pub read-entry-spec : {M : Type 1} → statement M
 read-entry-spec =

@@ -1,15 +1,15 @@
 -- `lines::operands::operands_length` meets its contract.
 -- Assumes nothing.
-use Prim.Native.Nat.{_/_}
+use Prim.Native.Nat.{ℕ, _+_, _/_, _≤_}
 use native.Mathlib.Omega.{arith}
-use mathlib.Core.Path.{_≡_, ap, _∙_}
-use Rattle.forms.specs.Form.{formOf}
-use Rattle.forms.proofs.Widths.{value-width-le}
-use Rattle.lines.specs.Line.{shownIn}
-use Rattle.lines.proofs.Written.{shown-le, length-operands, length-shown}
 use borrow.Author.Needs.{needs}
+use Rattle.forms.proofs.Widths.{value-width-le}
+use Rattle.lines.proofs.Written.{shown-le, length-all}
 use Rattle.lines.proofs.operands.operands_length.Statement.{statement}
 use Rattle.lines.proofs.operands.operands_length.Tie as tie
+
+short : (n n0 n1 n2 n3 : ℕ) → n ≤ 6 → n0 ≤ 6 → n1 ≤ 6 → n2 ≤ 6 → n3 ≤ 6 → n + n0 + n1 + n2 + n3 ≤ 30
+short n n0 n1 n2 n3 h h0 h1 h2 h3 = omega arith
 
 form-of-requires : tie.Need-form-of-requires
 form-of-requires c κs = search needs
@@ -57,9 +57,10 @@ add-result-4 : tie.Need-add-result-4
 add-result-4 c = search needs
 
 returns : tie.Need-returns
-returns c = let i = c .before .before .before .before .before .before .before .before .before .before .before .args .i in
-    let e : c .before .before .before .before .before .before .before .before .before .shown-in .result ≡ shownIn (formOf (i .code)) = c .before .before .before .before .before .before .before .before .before .shown-in .ensures ∙ ap shownIn (c .before .before .before .before .before .before .before .before .before .before .form-of .ensures) in
-    (omega (arith, length-operands i, length-shown _ _ (i .number) e, length-shown _ _ (i .v0) (c .before .before .before .before .before .before .before .value-width .ensures), length-shown _ _ (i .v1) (c .before .before .before .before .before .value-width2 .ensures), length-shown _ _ (i .v2) (c .before .before .before .value-width3 .ensures), length-shown _ _ (i .v3) (c .before .value-width4 .ensures)), omega arith)
+returns c =
+    (length-all (c .before .before .before .before .before .before .before .before .before .before .before .args .i) _ _ _ _ _ _ (c .before .before .before .before .before .before .before .before .before .before .form-of .ensures) (c .before .before .before .before .before .before .before .before .before .shown-in .ensures) (c .before .before .before .before .before .before .before .value-width .ensures) (c .before .before .before .before .before .value-width2 .ensures) (c .before .before .before .value-width3 .ensures) (c .before .value-width4 .ensures) _ _ _ _ _
+    (c .before .before .before .before .before .before .before .before .operand-length .ensures .0) (c .before .before .before .before .before .before .operand-length2 .ensures .0) (c .before .before .before .before .operand-length3 .ensures .0) (c .before .before .operand-length4 .ensures .0) (c .operand-length5 .ensures .0),
+    short _ _ _ _ _ (c .before .before .before .before .before .before .before .before .operand-length .ensures .1) (c .before .before .before .before .before .before .operand-length2 .ensures .1) (c .before .before .before .before .operand-length3 .ensures .1) (c .before .before .operand-length4 .ensures .1) (c .operand-length5 .ensures .1))
 
 pub operands-length-spec : {M : Type 1} → statement M
 operands-length-spec =

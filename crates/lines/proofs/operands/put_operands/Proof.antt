@@ -1,14 +1,12 @@
 -- `lines::operands::put_operands` meets its contract.
 -- Assumes nothing.
-use Prim.Native.Nat.{_/_}
-use native.Mathlib.Omega.{arith}
-use mathlib.Core.Path.{_≡_, ap, _∙_}
-use Rattle.forms.specs.Form.{formOf}
-use Rattle.forms.proofs.Widths.{value-width-le}
+use mathlib.Core.Path.{ap, _∙_}
+use lib.ListN.{length}
+use denote.Ref.{now}
+use borrow.Author.Needs.{needs}
 use Rattle.text.proofs.Puts.{put-append}
 use Rattle.lines.specs.Line.{shownIn, operandsOf}
-use Rattle.lines.proofs.Written.{shown-le, length-operands, length-same, length-shown, put-same}
-use borrow.Author.Needs.{needs}
+use Rattle.lines.proofs.Written.{room-number, room-first, room-second, room-third, room-fourth, put-same}
 use Rattle.lines.proofs.operands.put_operands.Statement.{statement}
 use Rattle.lines.proofs.operands.put_operands.Tie as tie
 
@@ -31,29 +29,28 @@ value-width-requires-4 : tie.Need-value-width-requires-4
 value-width-requires-4 c κs = search needs
 
 put-operand-requires : tie.Need-put-operand-requires
-put-operand-requires c κs = let i = c .before .before .before .before .before .before .before .before .args .i in
-    let e : c .before .before .before .before .before .shown-in .result ≡ shownIn (formOf (i .code)) = c .before .before .before .before .before .shown-in .ensures ∙ ap shownIn (c .before .before .before .before .before .before .form-of .ensures) in
-    (omega (arith, shown-le (formOf (i .code)), e), omega (arith, length-operands i, length-shown _ _ (i .number) e))
+put-operand-requires c κs = let s = c .before .before .before .before .before .before .before .before in
+    room-number (s .args .i) _ _ _ _ _ _ (c .before .before .before .before .before .before .form-of .ensures) (c .before .before .before .before .before .shown-in .ensures) (c .before .before .before .before .value-width .ensures) (c .before .before .before .value-width2 .ensures) (c .before .before .value-width3 .ensures) (c .before .value-width4 .ensures) (s .args .at) (length (now (s .args .room))) (s .pre)
 
 put-operand-requires-2 : tie.Need-put-operand-requires-2
-put-operand-requires-2 c κs = let i = c .before .before .before .before .before .before .before .before .before .before .before .before .args .i in
-    let e : c .before .before .before .before .before .before .before .before .before .shown-in .result ≡ shownIn (formOf (i .code)) = c .before .before .before .before .before .before .before .before .before .shown-in .ensures ∙ ap shownIn (c .before .before .before .before .before .before .before .before .before .before .form-of .ensures) in
-    (omega (arith, value-width-le 0 (i .count) (i .flags), c .before .before .before .before .before .before .before .before .value-width .ensures), omega (arith, length-operands i, length-same _ _ (i .number) e, length-shown _ _ (i .v0) (c .before .before .before .before .before .before .before .before .value-width .ensures)))
+put-operand-requires-2 c κs = let s = c .before .before .before .before .before .before .before .before .before .before .before .before in
+    room-first (s .args .i) _ _ _ _ _ _ (c .before .before .before .before .before .before .before .before .before .before .form-of .ensures) (c .before .before .before .before .before .before .before .before .before .shown-in .ensures) (c .before .before .before .before .before .before .before .before .value-width .ensures) (c .before .before .before .before .before .before .before .value-width2 .ensures) (c .before .before .before .before .before .before .value-width3 .ensures) (c .before .before .before .before .before .value-width4 .ensures) (s .args .at) (length (now (s .args .room))) (s .pre)
+    _ _ (c .before .before .before .put-operand .ensures .next) (c .before .before .before .put-operand .kept .1 .1 .0)
 
 put-operand-requires-3 : tie.Need-put-operand-requires-3
-put-operand-requires-3 c κs = let i = c .before .before .before .before .before .before .before .before .before .before .before .before .before .before .before .before .args .i in
-    let e : c .before .before .before .before .before .before .before .before .before .before .before .before .before .shown-in .result ≡ shownIn (formOf (i .code)) = c .before .before .before .before .before .before .before .before .before .before .before .before .before .shown-in .ensures ∙ ap shownIn (c .before .before .before .before .before .before .before .before .before .before .before .before .before .before .form-of .ensures) in
-    (omega (arith, value-width-le 1 (i .count) (i .flags / 2), c .before .before .before .before .before .before .before .before .before .before .before .value-width2 .ensures), omega (arith, length-operands i, length-same _ _ (i .number) e, length-same _ _ (i .v0) (c .before .before .before .before .before .before .before .before .before .before .before .before .value-width .ensures), length-shown _ _ (i .v1) (c .before .before .before .before .before .before .before .before .before .before .before .value-width2 .ensures)))
+put-operand-requires-3 c κs = let s = c .before .before .before .before .before .before .before .before .before .before .before .before .before .before .before .before in
+    room-second (s .args .i) _ _ _ _ _ _ (c .before .before .before .before .before .before .before .before .before .before .before .before .before .before .form-of .ensures) (c .before .before .before .before .before .before .before .before .before .before .before .before .before .shown-in .ensures) (c .before .before .before .before .before .before .before .before .before .before .before .before .value-width .ensures) (c .before .before .before .before .before .before .before .before .before .before .before .value-width2 .ensures) (c .before .before .before .before .before .before .before .before .before .before .value-width3 .ensures) (c .before .before .before .before .before .before .before .before .before .value-width4 .ensures) (s .args .at) (length (now (s .args .room))) (s .pre)
+    _ _ _ (c .before .before .before .before .before .before .before .put-operand .ensures .next) (c .before .before .before .put-operand2 .ensures .next) (c .before .before .before .put-operand2 .kept .1 .1 .0 ∙ c .before .before .before .before .before .before .before .put-operand .kept .1 .1 .0)
 
 put-operand-requires-4 : tie.Need-put-operand-requires-4
-put-operand-requires-4 c κs = let i = c .before .before .before .before .before .before .before .before .before .before .before .before .before .before .before .before .before .before .before .before .args .i in
-    let e : c .before .before .before .before .before .before .before .before .before .before .before .before .before .before .before .before .before .shown-in .result ≡ shownIn (formOf (i .code)) = c .before .before .before .before .before .before .before .before .before .before .before .before .before .before .before .before .before .shown-in .ensures ∙ ap shownIn (c .before .before .before .before .before .before .before .before .before .before .before .before .before .before .before .before .before .before .form-of .ensures) in
-    (omega (arith, value-width-le 2 (i .count) (i .flags / 4), c .before .before .before .before .before .before .before .before .before .before .before .before .before .before .value-width3 .ensures), omega (arith, length-operands i, length-same _ _ (i .number) e, length-same _ _ (i .v0) (c .before .before .before .before .before .before .before .before .before .before .before .before .before .before .before .before .value-width .ensures), length-same _ _ (i .v1) (c .before .before .before .before .before .before .before .before .before .before .before .before .before .before .before .value-width2 .ensures), length-shown _ _ (i .v2) (c .before .before .before .before .before .before .before .before .before .before .before .before .before .before .value-width3 .ensures)))
+put-operand-requires-4 c κs = let s = c .before .before .before .before .before .before .before .before .before .before .before .before .before .before .before .before .before .before .before .before in
+    room-third (s .args .i) _ _ _ _ _ _ (c .before .before .before .before .before .before .before .before .before .before .before .before .before .before .before .before .before .before .form-of .ensures) (c .before .before .before .before .before .before .before .before .before .before .before .before .before .before .before .before .before .shown-in .ensures) (c .before .before .before .before .before .before .before .before .before .before .before .before .before .before .before .before .value-width .ensures) (c .before .before .before .before .before .before .before .before .before .before .before .before .before .before .before .value-width2 .ensures) (c .before .before .before .before .before .before .before .before .before .before .before .before .before .before .value-width3 .ensures) (c .before .before .before .before .before .before .before .before .before .before .before .before .before .value-width4 .ensures) (s .args .at) (length (now (s .args .room))) (s .pre)
+    _ _ _ _ (c .before .before .before .before .before .before .before .before .before .before .before .put-operand .ensures .next) (c .before .before .before .before .before .before .before .put-operand2 .ensures .next) (c .before .before .before .put-operand3 .ensures .next) (c .before .before .before .put-operand3 .kept .1 .1 .0 ∙ c .before .before .before .before .before .before .before .put-operand2 .kept .1 .1 .0 ∙ c .before .before .before .before .before .before .before .before .before .before .before .put-operand .kept .1 .1 .0)
 
 put-operand-requires-5 : tie.Need-put-operand-requires-5
-put-operand-requires-5 c κs = let i = c .before .before .before .before .before .before .before .before .before .before .before .before .before .before .before .before .before .before .before .before .before .before .before .before .args .i in
-    let e : c .before .before .before .before .before .before .before .before .before .before .before .before .before .before .before .before .before .before .before .before .before .shown-in .result ≡ shownIn (formOf (i .code)) = c .before .before .before .before .before .before .before .before .before .before .before .before .before .before .before .before .before .before .before .before .before .shown-in .ensures ∙ ap shownIn (c .before .before .before .before .before .before .before .before .before .before .before .before .before .before .before .before .before .before .before .before .before .before .form-of .ensures) in
-    (omega (arith, value-width-le 3 (i .count) (i .flags / 8), c .before .before .before .before .before .before .before .before .before .before .before .before .before .before .before .before .before .value-width4 .ensures), omega (arith, length-operands i, length-same _ _ (i .number) e, length-same _ _ (i .v0) (c .before .before .before .before .before .before .before .before .before .before .before .before .before .before .before .before .before .before .before .before .value-width .ensures), length-same _ _ (i .v1) (c .before .before .before .before .before .before .before .before .before .before .before .before .before .before .before .before .before .before .before .value-width2 .ensures), length-same _ _ (i .v2) (c .before .before .before .before .before .before .before .before .before .before .before .before .before .before .before .before .before .before .value-width3 .ensures), length-shown _ _ (i .v3) (c .before .before .before .before .before .before .before .before .before .before .before .before .before .before .before .before .before .value-width4 .ensures)))
+put-operand-requires-5 c κs = let s = c .before .before .before .before .before .before .before .before .before .before .before .before .before .before .before .before .before .before .before .before .before .before .before .before in
+    room-fourth (s .args .i) _ _ _ _ _ _ (c .before .before .before .before .before .before .before .before .before .before .before .before .before .before .before .before .before .before .before .before .before .before .form-of .ensures) (c .before .before .before .before .before .before .before .before .before .before .before .before .before .before .before .before .before .before .before .before .before .shown-in .ensures) (c .before .before .before .before .before .before .before .before .before .before .before .before .before .before .before .before .before .before .before .before .value-width .ensures) (c .before .before .before .before .before .before .before .before .before .before .before .before .before .before .before .before .before .before .before .value-width2 .ensures) (c .before .before .before .before .before .before .before .before .before .before .before .before .before .before .before .before .before .before .value-width3 .ensures) (c .before .before .before .before .before .before .before .before .before .before .before .before .before .before .before .before .before .value-width4 .ensures) (s .args .at) (length (now (s .args .room))) (s .pre)
+    _ _ _ _ _ (c .before .before .before .before .before .before .before .before .before .before .before .before .before .before .before .put-operand .ensures .next) (c .before .before .before .before .before .before .before .before .before .before .before .put-operand2 .ensures .next) (c .before .before .before .before .before .before .before .put-operand3 .ensures .next) (c .before .before .before .put-operand4 .ensures .next) (c .before .before .before .put-operand4 .kept .1 .1 .0 ∙ c .before .before .before .before .before .before .before .put-operand3 .kept .1 .1 .0 ∙ c .before .before .before .before .before .before .before .before .before .before .before .put-operand2 .kept .1 .1 .0 ∙ c .before .before .before .before .before .before .before .before .before .before .before .before .before .before .before .put-operand .kept .1 .1 .0)
 
 same-length : tie.Need-same-length
 same-length c = search needs
@@ -61,8 +58,7 @@ same-length c = search needs
 returns : tie.Need-returns
 unfolding operandsOf
 returns c = let i = c .before .before .before .before .before .before .before .before .before .before .before .before .before .before .before .before .before .before .before .before .before .before .before .before .before .before .before .args .i in
-    let e : c .before .before .before .before .before .before .before .before .before .before .before .before .before .before .before .before .before .before .before .before .before .before .before .before .shown-in .result ≡ shownIn (formOf (i .code)) = c .before .before .before .before .before .before .before .before .before .before .before .before .before .before .before .before .before .before .before .before .before .before .before .before .shown-in .ensures ∙ ap shownIn (c .before .before .before .before .before .before .before .before .before .before .before .before .before .before .before .before .before .before .before .before .before .before .before .before .before .form-of .ensures) in
-    put-append (put-same _ _ (i .number) e (c .before .before .before .before .before .before .before .before .before .before .before .before .before .before .before .before .before .before .put-operand .ensures))
+    put-append (put-same _ _ (i .number) (c .before .before .before .before .before .before .before .before .before .before .before .before .before .before .before .before .before .before .before .before .before .before .before .before .shown-in .ensures ∙ ap shownIn (c .before .before .before .before .before .before .before .before .before .before .before .before .before .before .before .before .before .before .before .before .before .before .before .before .before .form-of .ensures)) (c .before .before .before .before .before .before .before .before .before .before .before .before .before .before .before .before .before .before .put-operand .ensures))
     (put-append (put-same _ _ (i .v0) (c .before .before .before .before .before .before .before .before .before .before .before .before .before .before .before .before .before .before .before .before .before .before .before .value-width .ensures) (c .before .before .before .before .before .before .before .before .before .before .before .before .before .before .put-operand2 .ensures))
     (put-append (put-same _ _ (i .v1) (c .before .before .before .before .before .before .before .before .before .before .before .before .before .before .before .before .before .before .before .before .before .before .value-width2 .ensures) (c .before .before .before .before .before .before .before .before .before .before .put-operand3 .ensures))
     (put-append (put-same _ _ (i .v2) (c .before .before .before .before .before .before .before .before .before .before .before .before .before .before .before .before .before .before .before .before .before .value-width3 .ensures) (c .before .before .before .before .before .before .put-operand4 .ensures))
