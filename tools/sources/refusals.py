@@ -23,7 +23,7 @@ from typing import NamedTuple
 ERROR = re.compile(r"^(?P<place>[^ ].*?:\d+:\d+): error: (?:`(?P<declaration>[^`]+)`: )?(?P<said>.*)", re.DOTALL)
 UNPROVED = re.compile(r"^note: (?P<place>[^ ]+:\d+:\d+): it is not proved that (?P<fact>.*) \(`(?P<need>[^`]+)`\)$", re.DOTALL)
 QUOTED = r"`(?P<{}>[^`]*)`"
-PLACED = r"(?:, (?:at the start|right after `[^`]*`),?)?"
+PLACED = r"(?:, (?:at the start|right after `[^`]*`|beneath (?:the binders? )?`[^`]*`),?)*"
 DIFFER = [re.compile(
     rf"{seen}, the two types (?:differ only|first differ) where one has {QUOTED.format('one')}\s*\(expected\){PLACED}\s*"
     rf"and the other has {QUOTED.format('other')}\s*\(found\)") for seen in ("computed as far as they go", "as printed")]
@@ -33,8 +33,8 @@ LANDS = re.compile(
     rf"but the expected type `[^`]*`(?:, which is `[^`]*`,)? has {QUOTED.format('other')} there")
 ENSURED = r"\S+\.Reads\.(?:Learnt|Post)"
 BEGIN = [
-    re.compile(rf"expected type `(\S+) [^`]*`,?\s+but this has type `{ENSURED} .*computed as far as it goes, the found one begins `(\S+) ", re.DOTALL),
-    re.compile(rf"expected type `{ENSURED} [^`]*`,?\s+but this has type `(\S+) .*computed as far as it goes, the expected one begins `(\S+) ", re.DOTALL),
+    re.compile(rf"expected type `(\S+) [^`]*`,?\s+but this has type `{ENSURED} .*computed as far as it goes, the found one (?:begins|is) `(\S+) ", re.DOTALL),
+    re.compile(rf"expected type `{ENSURED} [^`]*`,?\s+but this has type `(\S+) .*computed as far as it goes, the expected one (?:begins|is) `(\S+) ", re.DOTALL),
 ]
 LATE = re.compile(r"computed as far as they go, the first \d{4,} bytes of the two types are identical")
 OMEGA = re.compile(r"`omega`: the (?:goal|part `[^`]*` of the goal) does not follow from what it read")
