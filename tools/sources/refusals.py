@@ -9,7 +9,8 @@ other counts. In all of them the statement is well formed and the proof does not
   cc         the known equations do not join the two sides of an equation
   search     nothing that is known gives the statement
   statement  what the proof shows is another statement than the one asked: two equations or inequalities (or two of them, joined alike),
-             or two statements that first differ in a value, or so late that only their beginning is printed
+             or two statements that first differ in a value, or so late that only their beginning is printed, or of which one is what a
+             function ensures and computes to the same relation as the other
   no file    no error is left, a function has no proof file, and the prover's own search does not close the fact that the log names, such
              as that what the function ensures holds when it returns; every other function that is not proved calls it
 So a name that is not found, a term of another type (a state where a list is expected), an invariant or a measure that no longer fits
@@ -22,7 +23,7 @@ from typing import NamedTuple
 ERROR = re.compile(r"^(?P<place>[^ ].*?:\d+:\d+): error: (?:`(?P<declaration>[^`]+)`: )?(?P<said>.*)", re.DOTALL)
 UNPROVED = re.compile(r"^note: (?P<place>[^ ]+:\d+:\d+): it is not proved that (?P<fact>.*) \(`(?P<need>[^`]+)`\)$", re.DOTALL)
 QUOTED = r"`(?P<{}>[^`]*)`"
-PLACED = r"(?:, (?:at the start|right after `[^`]*`),?)?"
+PLACED = r"(?:, (?:at the start|right after `[^`]*`|beneath (?:the binders? )?`[^`]*`),?)*"
 DIFFER = [re.compile(
     rf"{seen}, the two types (?:differ only|first differ) where one has {QUOTED.format('one')}\s*\(expected\){PLACED}\s*"
     rf"and the other has {QUOTED.format('other')}\s*\(found\)") for seen in ("computed as far as they go", "as printed")]
@@ -30,6 +31,11 @@ ARE = re.compile(rf"computed as far as they go, the two types are {QUOTED.format
 LANDS = re.compile(
     rf"this `[^`]*` lands at index {QUOTED.format('one')} \(position \d+\) "
     rf"but the expected type `[^`]*`(?:, which is `[^`]*`,)? has {QUOTED.format('other')} there")
+ENSURED = r"\S+\.Reads\.(?:Learnt|Post)"
+BEGIN = [
+    re.compile(rf"expected type `(\S+) [^`]*`,?\s+but this has type `{ENSURED} .*computed as far as it goes, the found one (?:begins|is) `(\S+) ", re.DOTALL),
+    re.compile(rf"expected type `{ENSURED} [^`]*`,?\s+but this has type `(\S+) .*computed as far as it goes, the expected one (?:begins|is) `(\S+) ", re.DOTALL),
+]
 LATE = re.compile(r"computed as far as they go, the first \d{4,} bytes of the two types are identical")
 OMEGA = re.compile(r"`omega`: the (?:goal|part `[^`]*` of the goal) does not follow from what it read")
 WAITS = re.compile(r"`[^`]*` was not admitted \(it has holes or undetermined implicits, or was rejected\), so this cannot be checked$")
@@ -120,6 +126,8 @@ def form_of(declaration, said):
     if ARE.search(said):
         expected, found = map(relation, ARE.search(said).groups())
         return "statement" if expected and expected == found else None
+    if any(begun and begun.group(1) == begun.group(2) for begun in (pattern.search(said) for pattern in BEGIN)):
+        return "statement"
     for pattern in (*DIFFER, LANDS):
         if pattern.search(said):
             return "statement" if all(map(is_value, pattern.search(said).groups())) else None
