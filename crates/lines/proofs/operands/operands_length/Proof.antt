@@ -57,10 +57,11 @@ add-result-4 : tie.Need-add-result-4
 add-result-4 c = search needs
 
 returns : tie.Need-returns
-returns c =
-    (length-all (c .before .before .before .before .before .before .before .before .before .before .before .args .i) _ _ _ _ _ _ (c .before .before .before .before .before .before .before .before .before .before .form-of .ensures) (c .before .before .before .before .before .before .before .before .before .shown-in .ensures) (c .before .before .before .before .before .before .before .value-width .ensures) (c .before .before .before .before .before .value-width2 .ensures) (c .before .before .before .value-width3 .ensures) (c .before .value-width4 .ensures) _ _ _ _ _
-    (c .before .before .before .before .before .before .before .before .operand-length .ensures .0) (c .before .before .before .before .before .before .operand-length2 .ensures .0) (c .before .before .before .before .operand-length3 .ensures .0) (c .before .before .operand-length4 .ensures .0) (c .operand-length5 .ensures .0),
-    short _ _ _ _ _ (c .before .before .before .before .before .before .before .before .operand-length .ensures .1) (c .before .before .before .before .before .before .operand-length2 .ensures .1) (c .before .before .before .before .operand-length3 .ensures .1) (c .before .before .operand-length4 .ensures .1) (c .operand-length5 .ensures .1))
+returns c = (
+  length-all (c .before .before .before .before .before .before .before .before .before .before .before .args .i) _ _ _ _ _ _ (c .before .before .before .before .before .before .before .before .before .before .form-of .ensures) (c .before .before .before .before .before .before .before .before .before .shown-in .ensures) (c .before .before .before .before .before .before .before .value-width .ensures) (c .before .before .before .before .before .value-width2 .ensures) (c .before .before .before .value-width3 .ensures) (c .before .value-width4 .ensures) _ _ _ _ _
+      (c .before .before .before .before .before .before .before .before .operand-length .ensures .0) (c .before .before .before .before .before .before .operand-length2 .ensures .0) (c .before .before .before .before .operand-length3 .ensures .0) (c .before .before .operand-length4 .ensures .0) (c .operand-length5 .ensures .0),
+  short _ _ _ _ _ (c .before .before .before .before .before .before .before .before .operand-length .ensures .1) (c .before .before .before .before .before .before .operand-length2 .ensures .1) (c .before .before .before .before .operand-length3 .ensures .1) (c .before .before .operand-length4 .ensures .1) (c .operand-length5 .ensures .1),
+)
 
 pub operands-length-spec : {M : Type 1} → statement M
 operands-length-spec =
