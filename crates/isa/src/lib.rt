@@ -1,11 +1,9 @@
-// What an instruction is: how it is read, the values that it takes and pushes, and its way.
+// What an instruction is: how it is read, its way, and the stack check.
 mod decoder;
 mod shapes;
 
 pub use decoder::decode;
 pub use shapes::depth_after;
-pub use shapes::pushed_of;
-pub use shapes::taken_of;
 pub use shapes::way_of;
 
 // An instruction as a value. What the form lacks is 0. Bit i of the flags is set where value i has two bytes.

@@ -62,6 +62,11 @@ module _ (i : Instruction) (f : Form) (w w0 w1 w2 w3 : ℕ) (ef : f ≡ formOf (
   length-all n n0 n1 n2 n3 p p0 p1 p2 p3 =
       omega (arith, shown-lengths, length-operand w (i .number), length-operand w0 (i .v0), length-operand w1 (i .v1), length-operand w2 (i .v2), length-operand w3 (i .v3))
 
+  pub put-all : (l l₀ l₁ l₂ l₃ l₄ : List ℕ) (at a₀ a₁ a₂ a₃ end : ℕ) → Put (operandOf w (i .number)) l at l₀ a₀ → Put (operandOf w0 (i .v0)) l₀ a₀ l₁ a₁ → Put (operandOf w1 (i .v1)) l₁ a₁ l₂ a₂
+      → Put (operandOf w2 (i .v2)) l₂ a₂ l₃ a₃ → Put (operandOf w3 (i .v3)) l₃ a₃ l₄ end → Put (operandsOf i) l at l₄ end
+  unfolding operandsOf
+  put-all l l₀ l₁ l₂ l₃ l₄ at a₀ a₁ a₂ a₃ end p p₀ p₁ p₂ p₃ = rw (← ef, ← e, ← e0, ← e1, ← e2, ← e3) (put-append p (put-append p₀ (put-append p₁ (put-append p₂ p₃))))
+
   -- the places where they are put, one after the other, are in the room
   module _ (at n : ℕ) (h : at + length (operandsOf i) ≤ n) where
     pub room-number : (w ≤ 2) × (at + length (operandOf w 0) ≤ n)
@@ -80,10 +85,6 @@ module _ (i : Instruction) (f : Form) (w w0 w1 w2 w3 : ℕ) (ef : f ≡ formOf (
     pub room-fourth : (a b d g m : ℕ) → a ≡ at + length (operandOf w (i .number)) → b ≡ a + length (operandOf w0 (i .v0)) → d ≡ b + length (operandOf w1 (i .v1))
         → g ≡ d + length (operandOf w2 (i .v2)) → m ≡ n → (w3 ≤ 2) × (g + length (operandOf w3 0) ≤ m)
     room-fourth a b d g m p q r t k = (rw e3 (value-width-le 3 (i .count) (i .flags / 8)), omega (arith, shown-lengths, length-operand w3 (i .v3)))
-
--- an operand of the same width
-pub put-same : {at end : ℕ} {room after : List ℕ} (w w′ v : ℕ) → w ≡ w′ → Put (operandOf w v) room at after end → Put (operandOf w′ v) room at after end
-put-same w w′ v e p = rw e at p
 
 -- what a line says
 pub said-read : (d : Decoded) (b : ℕ) (i : Instruction) (n : ℕ) → d ≡ Read i n → saidOf (decodedAnswer d) b ≡ nameOf (i .code) ++ operandsOf i

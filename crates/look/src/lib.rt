@@ -79,8 +79,8 @@ fn look_read(program: &[u8], cells: usize, at: usize, depth: usize) -> Look
         Decoded::Read(read, length) => {
             let code = read.code;
             let way = isa::way_of(code, read.number);
-            let taken = isa::taken_of(code);
-            let pushed = isa::pushed_of(code, read.count);
+            let taken = counts::taken_of(code);
+            let pushed = counts::pushed_of(code, read.count);
             on_way(
                 at + length,
                 way,

@@ -34,9 +34,9 @@ fn say_bytes(s: &[u8]) {
 
 fn say_shape(i: Instruction) {
     io::write_all(STDOUT_FILENO, b" takes ");
-    io::print_decimal(STDOUT_FILENO, isa::taken_of(i.code) as u64);
+    io::print_decimal(STDOUT_FILENO, counts::taken_of(i.code) as u64);
     io::write_all(STDOUT_FILENO, b" pushes ");
-    io::print_decimal(STDOUT_FILENO, isa::pushed_of(i.code, i.count) as u64);
+    io::print_decimal(STDOUT_FILENO, counts::pushed_of(i.code, i.count) as u64);
     io::write_all(STDOUT_FILENO, b"\n");
 }
 

@@ -2,7 +2,10 @@
 -- Assumes nothing.
 use Prim.Native.Nat.{ℕ, _≤_, _<_}
 use native.Mathlib.Omega.{arith}
-use mathlib.Core.Path.{refl}
+use mathlib.Core.Path.{_≡_, refl}
+use mathlib.Core.Bool.{true}
+use lib.Dec.{leb}
+use borrow.Author.Tests.{leb-true}
 use borrow.Author.Needs.{needs}
 use Rattle.pending.proofs.Words.{taken-beside, taken-low}
 use Rattle.pending.proofs.take.Statement.{statement}
@@ -11,8 +14,8 @@ use Rattle.pending.proofs.take.Tie as tie
 under : (a b c : ℕ) → a < b → b ≤ c → a < c
 under a b c h l = omega arith
 
-apart : (a b : ℕ) → a < b → b ≤ a → ⊥
-apart a b h l = omega arith
+apart : (a b d : ℕ) → a < b → d ≤ a → leb b d ≡ true → ⊥
+apart a b d h l t = omega (arith, leb-true b d t)
 
 lowest-requires : tie.Need-lowest-requires
 lowest-requires c κs = c .before .before .before .before .pre .2
@@ -30,7 +33,7 @@ remove-requires : tie.Need-remove-requires
 remove-requires c κs = let p = c .before .before .before .before .before .before .before .before .pre in let l = under _ _ _ (c .before .before .if1 .left) (p .0) in (l, c .before .before .before .lowest .ensures .2 l, p .2)
 
 put-requires : tie.Need-put-requires
-put-requires c κs = (c .before .before .if2 .taken, c .before .before .before .before .before .before .before .remove .ensures .1)
+put-requires c κs = (omega arith, c .before .before .before .before .before .before .before .remove .ensures .1)
 
 same-length-3 : tie.Need-same-length-3
 same-length-3 c = search needs
@@ -41,7 +44,7 @@ same-length-4 c = search needs
 returns-2 : tie.Need-returns-2
 returns-2 c = let p = c .before .before .before .before .before .before .before .before .before .before .before .before .before .before .before .before .before .before .before .before .before .pre in
     let l = under _ _ _ (c .before .before .before .before .before .before .before .before .before .before .before .before .before .before .before .if1 .left) (p .0) in
-    (taken-low _ (c .before .before .before .before .before .before .before .before .before .before .before .before .remove .last .0) _ _ _ (c .before .before .before .before .before .before .before .before .before .before .before .before .before .before .before .if1 .left) l (c .before .before .before .before .before .before .before .before .before .before .before .before .before .before .before .before .lowest .ensures .1) (c .before .before .before .before .before .before .before .before .before .before .before .before .before .before .before .before .lowest .ensures .2 l) (c .before .before .before .before .before .before .before .before .before .before .before .before .remove .ensures .0) (λ h. c .before .before .before .before .put .ensures .0) (λ h. absurd (apart _ _ (c .before .before .before .before .before .before .before .if2 .taken) h)), c .before .before .before .before .put .ensures .1)
+    (taken-low _ (c .before .before .before .before .before .before .before .before .before .before .before .before .remove .last .0) _ _ _ (c .before .before .before .before .before .before .before .before .before .before .before .before .before .before .before .if1 .left) l (c .before .before .before .before .before .before .before .before .before .before .before .before .before .before .before .before .lowest .ensures .1) (c .before .before .before .before .before .before .before .before .before .before .before .before .before .before .before .before .lowest .ensures .2 l) (c .before .before .before .before .before .before .before .before .before .before .before .before .remove .ensures .0) (λ h. c .before .before .before .before .put .ensures .0) (λ h. absurd (apart _ _ _ (c .before .before .before .before .before .before .before .if2 .taken) h refl)), c .before .before .before .before .put .ensures .1)
 
 same-length-5 : tie.Need-same-length-5
 same-length-5 c = search needs
@@ -52,7 +55,7 @@ same-length-6 c = search needs
 returns-3 : tie.Need-returns-3
 returns-3 c = let p = c .before .before .before .before .before .before .before .before .before .before .before .before .before .before .pre in
     let l = under _ _ _ (c .before .before .before .before .before .before .before .before .if1 .left) (p .0) in
-    (taken-low _ (c .before .before .before .before .before .remove .last .0) _ _ _ (c .before .before .before .before .before .before .before .before .if1 .left) l (c .before .before .before .before .before .before .before .before .before .lowest .ensures .1) (c .before .before .before .before .before .before .before .before .before .lowest .ensures .2 l) (c .before .before .before .before .before .remove .ensures .0) (λ h. absurd (apart _ _ h (c .if2 .left))) (λ h. refl), c .before .before .before .before .before .remove .ensures .1)
+    (taken-low _ (c .before .before .before .before .before .remove .last .0) _ _ _ (c .before .before .before .before .before .before .before .before .if1 .left) l (c .before .before .before .before .before .before .before .before .before .lowest .ensures .1) (c .before .before .before .before .before .before .before .before .before .lowest .ensures .2 l) (c .before .before .before .before .before .remove .ensures .0) (λ h. absurd (apart _ _ _ h (c .if2 .left) refl)) (λ h. refl), c .before .before .before .before .before .remove .ensures .1)
 
 pub take-spec : {M : Type 1} → statement M
 take-spec =

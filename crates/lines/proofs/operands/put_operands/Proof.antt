@@ -1,12 +1,10 @@
 -- `lines::operands::put_operands` meets its contract.
 -- Assumes nothing.
-use mathlib.Core.Path.{ap, _∙_}
+use mathlib.Core.Path.{_∙_}
 use lib.ListN.{length}
 use denote.Ref.{now}
 use borrow.Author.Needs.{needs}
-use Rattle.text.proofs.Puts.{put-append}
-use Rattle.lines.specs.Line.{shownIn, operandsOf}
-use Rattle.lines.proofs.Written.{room-number, room-first, room-second, room-third, room-fourth, put-same}
+use Rattle.lines.proofs.Written.{room-number, room-first, room-second, room-third, room-fourth, put-all}
 use Rattle.lines.proofs.operands.put_operands.Statement.{statement}
 use Rattle.lines.proofs.operands.put_operands.Tie as tie
 
@@ -56,13 +54,10 @@ same-length : tie.Need-same-length
 same-length c = search needs
 
 returns : tie.Need-returns
-unfolding operandsOf
-returns c = let i = c .before .before .before .before .before .before .before .before .before .before .before .before .before .before .before .before .before .before .before .before .before .before .before .before .before .before .before .args .i in
-    put-append (put-same _ _ (i .number) (c .before .before .before .before .before .before .before .before .before .before .before .before .before .before .before .before .before .before .before .before .before .before .before .before .shown-in .ensures ∙ ap shownIn (c .before .before .before .before .before .before .before .before .before .before .before .before .before .before .before .before .before .before .before .before .before .before .before .before .before .form-of .ensures)) (c .before .before .before .before .before .before .before .before .before .before .before .before .before .before .before .before .before .before .put-operand .ensures))
-    (put-append (put-same _ _ (i .v0) (c .before .before .before .before .before .before .before .before .before .before .before .before .before .before .before .before .before .before .before .before .before .before .before .value-width .ensures) (c .before .before .before .before .before .before .before .before .before .before .before .before .before .before .put-operand2 .ensures))
-    (put-append (put-same _ _ (i .v1) (c .before .before .before .before .before .before .before .before .before .before .before .before .before .before .before .before .before .before .before .before .before .before .value-width2 .ensures) (c .before .before .before .before .before .before .before .before .before .before .put-operand3 .ensures))
-    (put-append (put-same _ _ (i .v2) (c .before .before .before .before .before .before .before .before .before .before .before .before .before .before .before .before .before .before .before .before .before .value-width3 .ensures) (c .before .before .before .before .before .before .put-operand4 .ensures))
-    (put-same _ _ (i .v3) (c .before .before .before .before .before .before .before .before .before .before .before .before .before .before .before .before .before .before .before .before .value-width4 .ensures) (c .before .before .put-operand5 .ensures)))))
+returns c = let a = c .before .before .before .before .before .before .before .before .before .before .before .before .before .before .before .before .before .before .before .before .before .before .before .before .before .before .before .args in
+    put-all (a .i) _ _ _ _ _ _ (c .before .before .before .before .before .before .before .before .before .before .before .before .before .before .before .before .before .before .before .before .before .before .before .before .before .form-of .ensures) (c .before .before .before .before .before .before .before .before .before .before .before .before .before .before .before .before .before .before .before .before .before .before .before .before .shown-in .ensures) (c .before .before .before .before .before .before .before .before .before .before .before .before .before .before .before .before .before .before .before .before .before .before .before .value-width .ensures) (c .before .before .before .before .before .before .before .before .before .before .before .before .before .before .before .before .before .before .before .before .before .before .value-width2 .ensures) (c .before .before .before .before .before .before .before .before .before .before .before .before .before .before .before .before .before .before .before .before .before .value-width3 .ensures) (c .before .before .before .before .before .before .before .before .before .before .before .before .before .before .before .before .before .before .before .before .value-width4 .ensures)
+    (now (a .room)) (c .before .before .before .before .before .before .before .before .before .before .before .before .before .before .before .before .before .before .put-operand .last .1 .1 .0) (c .before .before .before .before .before .before .before .before .before .before .before .before .before .before .put-operand2 .last .1 .1 .0) (c .before .before .before .before .before .before .before .before .before .before .put-operand3 .last .1 .1 .0) (c .before .before .before .before .before .before .put-operand4 .last .1 .1 .0) (c .before .before .put-operand5 .last .1 .1 .0) (a .at) (c .before .before .before .before .before .before .before .before .before .before .before .before .before .before .before .before .before .before .put-operand .result) (c .before .before .before .before .before .before .before .before .before .before .before .before .before .before .put-operand2 .result) (c .before .before .before .before .before .before .before .before .before .before .put-operand3 .result) (c .before .before .before .before .before .before .put-operand4 .result) (c .before .before .put-operand5 .result)
+    (c .before .before .before .before .before .before .before .before .before .before .before .before .before .before .before .before .before .before .put-operand .ensures) (c .before .before .before .before .before .before .before .before .before .before .before .before .before .before .put-operand2 .ensures) (c .before .before .before .before .before .before .before .before .before .before .put-operand3 .ensures) (c .before .before .before .before .before .before .put-operand4 .ensures) (c .before .before .put-operand5 .ensures)
 
 pub put-operands-spec : {M : Type 1} → statement M
 put-operands-spec =

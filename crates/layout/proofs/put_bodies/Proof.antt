@@ -1,4 +1,4 @@
--- `packer::put_bodies` meets its contract.
+-- `layout::put_bodies` meets its contract.
 -- Assumes nothing.
 use Prim.Native.Nat.{_+_, _-_, _≤_}
 use native.Mathlib.Omega.{arith}
@@ -7,9 +7,9 @@ use lib.Seq.{sets}
 use lib.ListN.{length, drop, length-set, drop-of-length-le}
 use borrow.Author.Needs.{needs}
 use denote.Ref.{now}
-use Rattle.packer.proofs.Puts.{bodies-next}
-use Rattle.packer.proofs.put_bodies.Statement.{statement}
-use Rattle.packer.proofs.put_bodies.Tie as tie
+use Rattle.layout.proofs.Puts.{bodies-next}
+use Rattle.layout.proofs.put_bodies.Statement.{statement}
+use Rattle.layout.proofs.put_bodies.Tie as tie
 
 abbrev Inv-loop : tie.InvT-loop
 Inv-loop bodies room₀ start at₀ i₀ room at i = (i ≤ length bodies) × (at ≡ start + i) × (length room ≡ length room₀) × (sets room at (drop i bodies) ≡ sets room₀ start bodies)

@@ -1,11 +1,11 @@
--- `packer::put_entry` meets its contract.
+-- `layout::put_entry` meets its contract.
 -- Assumes nothing.
 use Prim.Native.Nat.{_-_}
 use borrow.Author.Needs.{needs}
 use denote.Ref.{now}
-use Rattle.packer.proofs.Puts.{put-four}
-use Rattle.packer.proofs.put_entry.Statement.{statement}
-use Rattle.packer.proofs.put_entry.Tie as tie
+use Rattle.layout.proofs.Puts.{put-four}
+use Rattle.layout.proofs.put_entry.Statement.{statement}
+use Rattle.layout.proofs.put_entry.Tie as tie
 
 put-number-requires : tie.Need-put-number-requires
 put-number-requires c κs = search needs

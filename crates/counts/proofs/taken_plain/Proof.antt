@@ -1,13 +1,13 @@
--- `isa::taken_plain` meets its contract: each return is a run of codes over which the list of operations was computed.
+-- `counts::taken_plain` meets its contract: each return is a run of codes over which the list of operations was computed.
 -- Assumes nothing.
 use native.Mathlib.Omega.{arith}
 use mathlib.Core.Path.{refl}
 use lib.ListN.{getD}
 use Rattle.isa.specs.Op.{plainOps, NoOp}
 use Rattle.isa.specs.Shape.{takenOf}
 use Rattle.isa.proofs.Codes.{told}
-use Rattle.isa.proofs.shapes.taken_plain.Statement.{statement}
-use Rattle.isa.proofs.shapes.taken_plain.Tie as tie
+use Rattle.counts.proofs.taken_plain.Statement.{statement}
+use Rattle.counts.proofs.taken_plain.Tie as tie
 
 returns : tie.Need-returns
 returns c = told (λ k. takenOf (getD plainOps k NoOp)) 0 0x0 1 refl (c .before .args .code) (omega arith) (omega arith)

@@ -1,14 +1,14 @@
--- `isa::pushed_of` meets its contract: each return is a run of codes over which the list of operations was computed.
+-- `counts::pushed_of` meets its contract: each return is a run of codes over which the list of operations was computed.
 -- Assumes nothing.
 use native.Mathlib.Omega.{arith}
 use mathlib.Core.Path.{refl}
 use lib.ListN.{getD}
 use borrow.Author.Tests.{eq-eqb, ne-eqb}
 use Rattle.isa.specs.Op.{opsOf, NoOp, opIn}
 use Rattle.isa.specs.Shape.{pushedOf, pushedIn}
 use Rattle.isa.proofs.Codes.{told}
-use Rattle.isa.proofs.shapes.pushed_of.Statement.{statement}
-use Rattle.isa.proofs.shapes.pushed_of.Tie as tie
+use Rattle.counts.proofs.pushed_of.Statement.{statement}
+use Rattle.counts.proofs.pushed_of.Tie as tie
 
 returns : tie.Need-returns
 unfolding pushedIn opIn

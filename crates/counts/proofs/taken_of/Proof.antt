@@ -1,15 +1,15 @@
--- `isa::taken_of` meets its contract: each return is a run of codes over which the list of operations was computed.
+-- `counts::taken_of` meets its contract: each return is a run of codes over which the list of operations was computed.
 -- Assumes nothing.
 use native.Mathlib.Omega.{arith}
 use borrow.Author.Needs.{needs}
 use mathlib.Core.Path.{refl, _∙_}
 use Prim.Native.Nat.{_-_}
 use lib.ListN.{getD}
 use Rattle.isa.specs.Op.{plainOps, numberOps, NoOp, opIn}
 use Rattle.isa.specs.Shape.{takenOf, takenIn}
 use Rattle.isa.proofs.Codes.{told, agree}
-use Rattle.isa.proofs.shapes.taken_of.Statement.{statement}
-use Rattle.isa.proofs.shapes.taken_of.Tie as tie
+use Rattle.counts.proofs.taken_of.Statement.{statement}
+use Rattle.counts.proofs.taken_of.Tie as tie
 
 taken-plain-requires : tie.Need-taken-plain-requires
 taken-plain-requires c κs = search needs

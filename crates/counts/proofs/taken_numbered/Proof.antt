@@ -1,13 +1,13 @@
--- `isa::taken_numbered` meets its contract: each return is a run of places over which the list of operations was computed.
+-- `counts::taken_numbered` meets its contract: each return is a run of places over which the list of operations was computed.
 -- Assumes nothing.
 use native.Mathlib.Omega.{arith}
 use mathlib.Core.Path.{refl}
 use lib.ListN.{getD}
 use Rattle.isa.specs.Op.{numberOps, NoOp}
 use Rattle.isa.specs.Shape.{takenOf}
 use Rattle.isa.proofs.Codes.{told}
-use Rattle.isa.proofs.shapes.taken_numbered.Statement.{statement}
-use Rattle.isa.proofs.shapes.taken_numbered.Tie as tie
+use Rattle.counts.proofs.taken_numbered.Statement.{statement}
+use Rattle.counts.proofs.taken_numbered.Tie as tie
 
 returns : tie.Need-returns
 returns c = told (λ k. takenOf (getD (numberOps 0) k NoOp)) 0 0 2 refl (c .before .args .k) (omega arith) (omega arith)

@@ -1,19 +1,18 @@
--- `packer::put_entries` meets its contract.
+-- `layout::put_entries` meets its contract.
 -- Assumes nothing.
-use Prim.Native.Nat.{_+_, _-_, _*_, _≤_}
+use Prim.Native.Nat.{ℕ, _+_, _-_, _*_, _≤_, _<_}
 use native.Mathlib.Omega.{arith}
-use mathlib.Core.Path.{_≡_, refl}
+use mathlib.Core.Path.{_≡_, refl, _∙_}
 use lib.Seq.{sets}
 use lib.ListN.{length, drop}
 use borrow.Author.Needs.{needs}
 use denote.Ref.{now}
-use Rattle.basis.specs.Answer.{given}
 use Rattle.pack.specs.Format.{entriesBytes}
-use Rattle.packer.specs.Write.{laid, sumOf}
-use Rattle.packer.proofs.Lists.{alike-shown, laid-none, sum-next}
-use Rattle.packer.proofs.Puts.{entries-next}
-use Rattle.packer.proofs.put_entries.Statement.{statement}
-use Rattle.packer.proofs.put_entries.Tie as tie
+use Rattle.layout.specs.Layout.{laid, sumOf}
+use Rattle.layout.proofs.Lists.{alike-shown, laid-none, sum-next}
+use Rattle.layout.proofs.Puts.{entries-next}
+use Rattle.layout.proofs.put_entries.Statement.{statement}
+use Rattle.layout.proofs.put_entries.Tie as tie
 
 abbrev Inv-loop : tie.InvT-loop
 Inv-loop tags cells lengths first room₀ offset₀ at₀ i₀ room offset at i = (i ≤ length tags) × (at ≡ 2 + 8 * i) × (offset + sumOf (drop i lengths) ≤ 24576) × (length room ≡ length room₀) × (sets room at (entriesBytes (laid offset (drop i tags) (drop i cells) (drop i lengths))) ≡ sets room₀ 2 (entriesBytes (laid first tags cells lengths)))
@@ -23,6 +22,10 @@ abbrev μ-loop : tie.MeasureT-loop
 
 loop-holds : tie.Need-loop-holds Inv-loop μ-loop
 loop-holds c = (omega arith, omega arith, omega arith, refl, refl)
+
+-- one entry further
+again : (i n at offset next rest sum : ℕ) → i < n → at ≡ 2 + 8 * i → offset + sum ≤ 24576 → sum ≡ next + rest → (i + 1 ≤ n) × (at + 8 ≡ 2 + 8 * (i + 1)) × (offset + next + rest ≤ 24576)
+again i n at offset next rest sum h a s e = (omega arith, omega arith, omega arith)
 
 mul-length : tie.Need-mul-length Inv-loop μ-loop
 mul-length c = search needs
@@ -73,8 +76,9 @@ loop-again c = let l = c .before .before .before .before .before .before .before
     let cs = now (a .cells) in
     let ls = now (a .lengths) in
     let g = alike-shown ts cs ls (c .before .before .before .before .before .before .before .before .before .before .before .before .before .pre .0) in
-    let p = sum-next ts cs ls g (l .i) (omega arith) in
-    (omega arith, omega arith, omega arith, omega (arith, c .before .before .put-entry .kept .0), entries-next ts cs ls (l .room) (c .before .before .put-entry .last .0) _ (l .i) (l .at) (l .offset) g (omega arith) (c .before .before .put-entry .ensures) (l .inv .4))
+    let h = c .before .before .before .before .before .before .before .loop-test .taken in
+    let q = again (l .i) (length ts) (l .at) (l .offset) _ _ _ h (l .inv .1) (l .inv .2) (sum-next ts cs ls g (l .i) h) in
+    (q .0, q .1, q .2, c .before .before .put-entry .kept .0 ∙ l .inv .3, entries-next ts cs ls (l .room) (c .before .before .put-entry .last .0) _ (l .i) (l .at) (l .offset) g h (c .before .before .put-entry .ensures) (l .inv .4))
 
 same-length : tie.Need-same-length Inv-loop μ-loop
 same-length c = search needs

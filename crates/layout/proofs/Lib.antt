@@ -1,0 +1,3 @@
+-- The laws of `layout`.
+pub mod Lists
+pub mod Puts
