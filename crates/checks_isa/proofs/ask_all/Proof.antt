@@ -1,47 +1,37 @@
 -- `checks_isa::ask_all` meets its contract; the loop's invariant and its measure come first.
 -- Assumes nothing.
-use borrow.Author.Needs.{needs}
-use mathlib.Core.Path.{_≡_}
+use native.Mathlib.Omega.{arith}
 use Prim.Native.Nat.{_-_}
 use lib.ListN.{length}
 use Rattle.checks_isa.proofs.ask_all.Statement.{statement}
 use Rattle.checks_isa.proofs.ask_all.Tie as tie
 
 abbrev Inv-loop : tie.InvT-loop
-Inv-loop cases₀ at₀ t4 cases at = length cases ≡ length cases₀
+Inv-loop cases at₀ at = Unit {0}
 
 abbrev μ-loop : tie.MeasureT-loop
-μ-loop cases₀ at₀ t4 cases at = length cases₀ - at
+μ-loop cases at₀ at = length cases - at
 
 loop-holds : tie.Need-loop-holds Inv-loop μ-loop
-loop-holds c = search needs
+loop-holds c = omega arith
+
+rest-requires : tie.Need-rest-requires Inv-loop μ-loop
+rest-requires c κs = omega arith
 
 ask-case-requires : tie.Need-ask-case-requires Inv-loop μ-loop
-ask-case-requires c κs = search needs
+ask-case-requires c κs = omega arith
 
-slice-aggregate-write-all : tie.Need-slice-aggregate-write-all Inv-loop μ-loop
-slice-aggregate-write-all c = search needs
-
-write-all-requires : tie.Need-write-all-requires Inv-loop μ-loop
-write-all-requires c κs = search needs
-
-same-length : tie.Need-same-length Inv-loop μ-loop
-same-length c = search needs
-
-returns : tie.Need-returns Inv-loop μ-loop
-returns c = search needs
+line-requires : tie.Need-line-requires Inv-loop μ-loop
+line-requires c κs = omega arith
 
 loop-less : tie.Need-loop-less Inv-loop μ-loop
-loop-less c = search needs
+loop-less c = omega arith
 
 loop-again : tie.Need-loop-again Inv-loop μ-loop
-loop-again c = search needs
+loop-again c = omega arith
 
-same-length-2 : tie.Need-same-length-2 Inv-loop μ-loop
-same-length-2 c = search needs
-
-returns-2 : tie.Need-returns-2 Inv-loop μ-loop
-returns-2 c = search needs
+returns : tie.Need-returns Inv-loop μ-loop
+returns c = omega arith
 
 pub ask-all-spec : {M : Type 1} → statement M
 ask-all-spec =
@@ -50,12 +40,9 @@ ask-all-spec =
     Inv-loop
     μ-loop
     loop-holds
+    rest-requires
     ask-case-requires
-    slice-aggregate-write-all
-    write-all-requires
-    same-length
-    returns
+    line-requires
     loop-less
     loop-again
-    same-length-2
-    returns-2)
+    returns)

@@ -7,25 +7,22 @@ use Rattle.checks_pack.proofs.ask_all.Statement.{statement}
 use Rattle.checks_pack.proofs.ask_all.Tie as tie
 
 abbrev Inv-loop : tie.InvT-loop
-Inv-loop cases at₀ t4 at = Unit {0}
+Inv-loop cases at₀ at = Unit {0}
 
 abbrev μ-loop : tie.MeasureT-loop
-μ-loop cases at₀ t4 at = length cases - at
+μ-loop cases at₀ at = length cases - at
 
 loop-holds : tie.Need-loop-holds Inv-loop μ-loop
 loop-holds c = omega arith
 
+rest-requires : tie.Need-rest-requires Inv-loop μ-loop
+rest-requires c κs = omega arith
+
 ask-case-requires : tie.Need-ask-case-requires Inv-loop μ-loop
 ask-case-requires c κs = omega arith
 
-slice-aggregate-write-all : tie.Need-slice-aggregate-write-all Inv-loop μ-loop
-slice-aggregate-write-all c = omega arith
-
-write-all-requires : tie.Need-write-all-requires Inv-loop μ-loop
-write-all-requires c κs = omega arith
-
-returns : tie.Need-returns Inv-loop μ-loop
-returns c = omega arith
+line-requires : tie.Need-line-requires Inv-loop μ-loop
+line-requires c κs = omega arith
 
 loop-less : tie.Need-loop-less Inv-loop μ-loop
 loop-less c = omega arith
@@ -33,8 +30,8 @@ loop-less c = omega arith
 loop-again : tie.Need-loop-again Inv-loop μ-loop
 loop-again c = omega arith
 
-returns-2 : tie.Need-returns-2 Inv-loop μ-loop
-returns-2 c = omega arith
+returns : tie.Need-returns Inv-loop μ-loop
+returns c = omega arith
 
 pub ask-all-spec : {M : Type 1} → statement M
 ask-all-spec =
@@ -43,10 +40,9 @@ ask-all-spec =
     Inv-loop
     μ-loop
     loop-holds
+    rest-requires
     ask-case-requires
-    slice-aggregate-write-all
-    write-all-requires
-    returns
+    line-requires
     loop-less
     loop-again
-    returns-2)
+    returns)

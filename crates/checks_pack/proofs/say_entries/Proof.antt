@@ -11,14 +11,8 @@ Inv-loop pack n i₀ i = Unit {0}
 abbrev μ-loop : tie.MeasureT-loop
 μ-loop pack n i₀ i = n - i
 
-slice-aggregate-write-all : tie.Need-slice-aggregate-write-all Inv-loop μ-loop
-slice-aggregate-write-all c = omega arith
-
-write-all-requires : tie.Need-write-all-requires Inv-loop μ-loop
-write-all-requires c κs = omega arith
-
-say-number-requires : tie.Need-say-number-requires Inv-loop μ-loop
-say-number-requires c κs = omega arith
+ok-requires : tie.Need-ok-requires Inv-loop μ-loop
+ok-requires c κs = omega arith
 
 loop-holds : tie.Need-loop-holds Inv-loop μ-loop
 loop-holds c = omega arith
@@ -47,9 +41,7 @@ say-entries-spec =
     (tie.spec
     Inv-loop
     μ-loop
-    slice-aggregate-write-all
-    write-all-requires
-    say-number-requires
+    ok-requires
     loop-holds
     entry-at-requires
     say-listed-requires

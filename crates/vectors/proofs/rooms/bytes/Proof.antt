@@ -1,0 +1,13 @@
+-- `vectors::rooms::bytes` meets its contract, by a law and not by counting.
+-- Assumes nothing.
+use Prim.Native.Nat.{ℕ}
+use mathlib.Core.Path.{sym}
+use lib.ListN.{length-replicate}
+use Rattle.vectors.proofs.rooms.bytes.Statement.{statement}
+use Rattle.vectors.proofs.rooms.bytes.Tie as tie
+
+returns : tie.Need-returns
+returns c = sym (length-replicate {A = ℕ} 65600 0)
+
+pub bytes-spec : {M : Type 1} → statement M
+bytes-spec = tie.close (tie.spec returns)
