@@ -74,7 +74,7 @@ numbers! {
     CellsSize = 22, "the stack is over 1,024 cells", "lend at most 1,024";
     MapSize = 23, "the depth map is not as long as the program; for a report, it has fewer than 16,384 cells", "lend exactly one cell a byte; 16,384 for a report";
     Deep = 24, "the state is deeper than its stack", "hand in the cells that the state came with";
-    Room = 25, "the output is longer than the room lent", "lend a longer room: nine bytes hold any instruction, 24,576 any pack";
+    Room = 25, "the output is longer than the room lent", "lend a longer room: nine bytes hold any instruction, 278,528 any listing, 24,576 any pack, 1,536 any report";
     Unwritable = 26, "illegal code, a number too large for its field, a count not 1 to 4, or something not 0 that the form lacks", "correct the value";
     PackContents = 30, "contents cut, or more than 64 entries; in writing also lists of unlike length", "the pack is truncated, or is none";
     PackSize = 31, "the pack is over 24,576 bytes", "split it";
