@@ -156,9 +156,10 @@ static inline khx_state khx_fresh(void)
 }
 
 /*
- * Runs at most `budget` steps over the lent data and cells. The status afterwards is KHX_RUNNING (the budget is used: hand
- * the state in again to go on), KHX_HALTED, or KHX_FAULTED by 1 to 8. With depth d the live values are the last d cells,
- * the top first. A stopped state comes back as khx_ran says, 0 steps. Refusals: 20, 21, 22, 24; none touches a memory.
+ * Runs at most `budget` steps over the lent data and cells. Of a state that had not faulted, the status afterwards is
+ * KHX_RUNNING (the budget is used: hand the state in again to go on), KHX_HALTED, or KHX_FAULTED by 1 to 8. With depth d the
+ * live values are the last d cells, the top first. A stopped state comes back as khx_ran says, 0 steps. Refusals: 20, 21,
+ * 22, 24; none touches a memory.
  */
 khx_ran khx_run(khx_state state, const uint8_t *program, size_t program_length, uint8_t *data, size_t data_length,
                 uint16_t *cells, size_t cells_length, uint32_t budget);
@@ -171,8 +172,9 @@ static inline khx_ran khx_step(khx_state state, const uint8_t *program, size_t p
 }
 
 /*
- * Whether a program may run with so many stack cells: started fresh with as many or more, it then faults only by 6 or 7,
- * and its depth is always the one that the map has for its address. The map has a cell for each byte of the program.
+ * Whether a program may run with so many stack cells: started fresh with as many or more, or gone on with from a state that
+ * such a run handed back, whatever became of data and cells, it then faults only by 6 or 7, and its depth is always the one
+ * that the map has for its address. The map has a cell for each byte of the program.
  * Accepted: the depth of each address that a path meets, KHX_UNMET elsewhere. Refused by 1 to 10: every cell KHX_UNMET.
  * Refusals: 20, 22, 23, then by the walk 1 to 5 and 8 to 10.
  */

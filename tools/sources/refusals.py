@@ -41,6 +41,8 @@ OMEGA = re.compile(r"`omega`: the (?:goal|part `[^`]*` of the goal) does not fol
 WAITS = re.compile(r"`[^`]*` was not admitted \(it has holes or undetermined implicits, or was rejected\), so this cannot be checked$")
 REWRITTEN = re.compile(r"`(rw|simp)` has no last argument, so what it leaves must be a path whose two ends are equal, and `Path .*`\s*is none", re.DOTALL)
 UNREACHED = re.compile(r"`(rw|simp)`: no equation of the list has an instance in the goal `(?:\S+\.)?(?:Reads\.Post|Path|_≡_) ")
+ABSENT = re.compile(r"`(rw)`: no occurrence of the path's left endpoint in the goal: .*Looked for `[^`]*` in the goal `(?P<goal>[^`]*)`", re.DOTALL)
+PLAIN = re.compile(rf"expected type {QUOTED.format('one')},?\s+but this has type {QUOTED.format('other')}")
 CC = re.compile(r"`cc`: the equations do not join `")
 SEARCH = re.compile(r"`search`: no proof of `[^`]*`\s*was found")
 SHIFTED = re.compile(r"expected type `tie\.Need-[^`]*`, but this has type `tie\.Need-[^`]*`")
@@ -117,6 +119,8 @@ def form_of(declaration, said):
         return "omega"
     if REWRITTEN.search(said) or UNREACHED.match(said):
         return (REWRITTEN.search(said) or UNREACHED.match(said)).group(1)
+    if ABSENT.match(said):
+        return "rw" if relation(ABSENT.match(said).group("goal")) else None
     if CC.match(said):
         return "cc"
     if SEARCH.match(said):
@@ -131,6 +135,9 @@ def form_of(declaration, said):
     for pattern in (*DIFFER, LANDS):
         if pattern.search(said):
             return "statement" if all(map(is_value, pattern.search(said).groups())) else None
+    if PLAIN.match(said):
+        expected, found = map(relation, PLAIN.match(said).groups())
+        return "statement" if expected and expected == found else None
     return None
 
 

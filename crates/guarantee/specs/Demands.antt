@@ -117,7 +117,7 @@ NoSumWraps =
     (program : List ℕ) (m : Machine) (i : Instruction) (n : ℕ) → decodeOf program (m .state .address) ≡ given (i, n)
     → Framed program (opOf i) (m .state .depth) (m .mem) (m .cells) (actOf program (m .state .address) (m .state .depth) (m .mem) (m .cells))
 
--- Nothing is read but the range that the instruction names: over data of one length that agree there (`Agree`), whatever
+-- Of the data nothing is read but the range that the instruction names: over data of one length that agree there (`Agree`), whatever
 -- else they hold, the instruction does the same: its move, all cells, and every byte that it writes (`Alike`). So no data
 -- outside that range, say another message's in one buffer, shows in what a hostile table's rule comes to.
 unfoldable pub ReadsOnlyItsRange : Type 0

@@ -18,4 +18,4 @@ use Rattle.tells.specs.Numbers.{Numbers}
 pub numbers-told : Numbers
 unfolding outcomeOf runOf stepOf actOf doOf depthAfter opOf opIn verifyOf walk turns turn lowest meets meet lookOf decodeOf headOf lengthOf formOf codeOf valueWidth ones statusOf
 numbers-told =
-    ((refl, refl, refl, refl, refl, refl, refl, refl, refl, refl), (refl, refl, refl), (refl, refl, refl, refl, refl, refl, refl, refl, refl, refl, refl))
+    ((refl, refl, refl, refl, refl, refl, refl, refl, refl, refl, refl), (refl, refl, refl), (refl, refl, refl, refl, refl, refl, refl, refl, refl, refl, refl))

@@ -40,15 +40,16 @@ States =
     × Runs (state 0 0 0 0) (0x85 ∷ 0x00 ∷ []) 9 (ran 0 2 (state 1 1 1 0)) 5
     × Runs (state 0 0 0 0) (0x85 ∷ 0x5B ∷ []) 9 (ran 0 1 (state 1 1 2 2)) 5
     × Runs (state 0 0 0 0) (0x33 ∷ 0x00 ∷ []) 9 (ran 0 0 (state 0 0 2 6)) 7
-    -- "A stopped state comes back as it was, 0 steps"
+    -- "A stopped state comes back as khx_ran says, 0 steps"
     × Runs (state 1 1 1 0) (0x85 ∷ 0x00 ∷ []) 9 (ran 0 0 (state 1 1 1 0)) 7
     × Runs (state 1 1 2 8) (0x85 ∷ 0x00 ∷ []) 9 (ran 0 0 (state 1 1 2 8)) 7
-    -- "Handed in, a status over 2 is taken as KHX_FAULTED, so it cannot run, and comes back so; the fault of another status is not looked at and comes back 0"
+    -- "Handed in, a status over 2 is taken as KHX_FAULTED, so it cannot run, and comes back so; the fault beside KHX_RUNNING or KHX_HALTED is not looked at and comes back 0"
     × Runs (state 0 0 3 5) (0x85 ∷ 0x00 ∷ []) 9 (ran 0 0 (state 0 0 2 5)) 7
     × Runs (state 0 0 1 5) (0x85 ∷ 0x00 ∷ []) 9 (ran 0 0 (state 0 0 1 0)) 7
     × Runs (state 0 0 0 5) (0x85 ∷ 0x00 ∷ []) 0 (ran 0 0 (state 0 0 0 0)) 7
-    -- "refusal: 0, or the number of the first refusal that applies"; the state "after a refusal is the one handed in"
+    -- "refusal: 0, or the number of the first refusal that applies"; "After a refusal, and where the state had stopped, it is the one handed in, but that a status over 2 comes back as KHX_FAULTED"
     × Runs (state 4 2 0 0) (0x85 ∷ 0x00 ∷ []) 9 (ran 24 0 (state 4 2 0 0)) 7
+    × Runs (state 4 2 3 5) (0x85 ∷ 0x00 ∷ []) 9 (ran 24 0 (state 4 2 2 5)) 7
 
 -- "What the verifier says. `at` is the address of the instruction refused by 1 to 10, and 0 otherwise"
 abbrev pub Verdicts : Type 0

@@ -35,7 +35,7 @@ Resumed =
 -- "Run, and a single step where it is public, checks 20, 21, 22, 24; a refusal returns the same state, 0 steps, and touches no memory"
 abbrev pub Refused : Type 0
 Refused =
-    -- "22 cells over size"; 1,024 are allowed
+    -- "20, 21, 22: program, data, cells over size": 22; 1,024 are allowed
     (outcomeOf 1 (0x00 ∷ []) (stack 1024) ≡ came (machine (at 0 0 Halted) [] (replicate 1024 7)) 1)
     × (outcomeOf 1 (0x00 ∷ []) (stack 1025) ≡ refused 22 (stack 1025))
     -- "24 state deeper than the stack", whatever the status and the budget; after 22
@@ -43,7 +43,7 @@ Refused =
     × (outcomeOf 1 (0x00 ∷ []) (machine (at 0 2 Running) [] (7 ∷ [])) ≡ refused 24 (machine (at 0 2 Running) [] (7 ∷ [])))
     × (outcomeOf 0 (0x00 ∷ []) (machine (at 0 2 Halted) [] (7 ∷ [])) ≡ refused 24 (machine (at 0 2 Halted) [] (7 ∷ [])))
     × (outcomeOf 1 (0x00 ∷ []) (machine (at 0 2000 Running) [] (replicate 1025 7)) ≡ refused 22 (machine (at 0 2000 Running) [] (replicate 1025 7)))
-    -- "20, 21 program, data over size", 20 first; 16,384 bytes of program and 65,535 of data are allowed
+    -- "20, 21, 22: program, data, cells over size": 20 first; 16,384 bytes of program and 65,535 of data are allowed
     × (outcomeOf 1 (replicate 16384 0x00) (stack 0) ≡ came (machine (at 0 0 Halted) [] []) 1)
     × (outcomeOf 1 (replicate 16385 0x00) (stack 0) ≡ refused 20 (stack 0))
     × (outcomeOf 1 (replicate 16385 0x00) (stack 1025) ≡ refused 20 (stack 1025))
