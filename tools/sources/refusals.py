@@ -77,7 +77,7 @@ def is_value(term):
     name = head.split(".")[-1]
     if last in TYPE_PARTS or name in TYPE_MAKERS or head.startswith(TYPE_HOMES):
         return False
-    return bool(re.fullmatch(r"\d+|\.\w\S*", head) or ".the-variants." in head or re.match(r"[a-zα-ω_\[]", name))
+    return bool(re.fullmatch(r"\d+|\.\w\S*", head) or ".the-variants." in head or re.search(r"\.declared\.(\w+)\.\1\.\w+$", head) or re.match(r"[a-zα-ω_\[]", name))
 
 
 def parts(term):
