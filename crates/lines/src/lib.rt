@@ -1,6 +1,4 @@
 // One line of a listing, written into a lent room.
-mod operands;
-
 ghost use mathlib.Core.Path.{_≡_};
 ghost use Prim.Native.Nat.{_+_, _≤_};
 ghost use lib.ListN.{length};

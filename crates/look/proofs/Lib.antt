@@ -4,5 +4,3 @@ pub mod Readings
 pub mod Shallow
 pub mod Wrongs
 pub mod Answers
-pub mod Rows
-pub mod Turns

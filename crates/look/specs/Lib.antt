@@ -1,4 +1,3 @@
 -- The definitions of `look`.
 pub mod Look
-pub mod Numbered
 pub mod Wrong

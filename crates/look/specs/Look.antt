@@ -1,16 +1,12 @@
 -- What an instruction leads to at a depth: decode, stack check and way, as in a step.
 use Prim.Native.Nat.{ℕ, _+_}
-use mathlib.Core.Path.{_≡_}
-use mathlib.Core.Logic.{_≢_}
 use mathlib.Core.Bool.{Bool, true, false}
 use mathlib.Core.List.{List, [], _∷_}
 use lib.Dec.{eqb}
 use Rattle.basis.specs.Pick.{pick}
 use Rattle.basis.specs.Answer.{Answer, given, refused}
-use Rattle.forms.specs.Form.{formOf, codeOf}
-use Rattle.forms.specs.declared.Form.the-variants.{Shift}
 use Rattle.isa.specs.Op.{Op, opOf}
-use Rattle.isa.specs.Shape.{takenOf, pushedOf, wayOf, wayIn, depthAfter}
+use Rattle.isa.specs.Shape.{takenOf, pushedOf, wayOf, depthAfter}
 use Rattle.isa.specs.Decode.{Reading, decodeOf}
 use Rattle.isa.specs.declared.Way.{Way}
 use Rattle.isa.specs.declared.Way.the-variants.{Stop, Next, Jump, Branch, Call, Taken, System, Extension}
@@ -67,8 +63,3 @@ outcomeIn (Bad k) = bad k
 outcomeIn Nowhere = leads []
 outcomeIn (One b e) = leads (hop b e ∷ [])
 outcomeIn (Two b x e) = leads (hop b e ∷ hop x e ∷ [])
-
--- a first byte after which the next instruction follows whatever the number in the code, which may be any of its width
-pub record GoesOn (first : ℕ) : Type 0 where
-  pub next : (x : ℕ) → Next ≡ wayIn (codeOf first) x
-  pub free : formOf (codeOf first) ≢ Shift

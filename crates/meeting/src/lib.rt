@@ -93,7 +93,7 @@ pub fn examine(
     ensures { λ r. ⌜ TurnedAny (lookOf (now (program .entry)) cells) at (getD (now (map .entry)) at 0) (now (map .entry)) (now (words .entry)) r (now (map .exit)) (now (words .exit)) × Topped (now (words .exit)) (now (tops .exit)) ⌝ }
 {
     let depth = map[at] as usize;
-    match look::look_at(rows, program, cells, at, depth) {
+    match glance::look_at(rows, program, cells, at, depth) {
         Look::Bad(number) => Examined::Stop(number),
         Look::Nowhere => Examined::On(16384),
         Look::One(b, e) => meet_one(map, b, e),

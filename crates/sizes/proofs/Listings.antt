@@ -23,7 +23,8 @@ use Rattle.isa.specs.Decode.{Reading, numberIn, instructionIn, headOf}
 use Rattle.text.proofs.Puts.{length-hex}
 use Rattle.names.specs.Names.{placeOf, nameOf}
 use Rattle.lines.specs.Line.{operandOf, shownIn, operandsOf, saidOf, stepOf, lineOf}
-use Rattle.lines.proofs.Written.{length-operands, length-line}
+use Rattle.operands.proofs.Shown.{length-operands}
+use Rattle.lines.proofs.Written.{length-line}
 use Rattle.listing.specs.Listing.{linesOf, listingOf, listOf}
 use Rattle.listing.proofs.Listings.{step-in}
 use Rattle.sizes.proofs.Rooms.{Writes, early, late}

@@ -1,0 +1,3 @@
+-- What is proved of `glance`.
+mod Rows
+mod Turns

@@ -1,0 +1,3 @@
+-- The definitions of `glance`.
+pub mod Follows
+pub mod Numbered

@@ -1,0 +1,2 @@
+-- The laws of `operands`.
+pub mod Shown

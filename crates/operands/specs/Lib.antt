@@ -1,0 +1,2 @@
+-- The definitions of `operands`.
+pub mod Operands
