@@ -18,7 +18,7 @@ test:
 	@.ci/run
 
 # The proved library for x86-64, as C and Rust link it: rt proves each family of its face before that is built; then they are merged.
-$(library): crates.txt tools/archive $(shell find crates -path '*/src/*.rt')
+$(library): crates.txt tools/archive tools/placed $(shell find crates -path '*/src/*.rt')
 	@echo "building libkhalixoshi.a: its crates are proved first, which takes some minutes" >&2
 	@mkdir -p target && (for family in $(families); do rt staticlib $$family || exit 1; done) >target/staticlib.log 2>&1 || { cat target/staticlib.log; exit 1; }
 	@tools/archive $(families)

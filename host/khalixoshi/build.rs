@@ -22,6 +22,8 @@ fn main() {
     }
     println!("cargo:rustc-link-search=native={}", folder.display());
     println!("cargo:rustc-link-lib=static=khalixoshi");
+    // for the build script of a crate that stands on this one
+    println!("cargo:archive={}", archive.display());
 }
 
 /// The folder of the library that the kit builds.

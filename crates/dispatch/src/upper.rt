@@ -21,5 +21,5 @@ pub fn upper(
     if first < 0xC0 {
         return stack::push((first % 64) as u16, address + 1, depth, cells);
     }
-    pushes::push_values(first, program, address, depth, cells)
+    values::push_by_first(first, program, address, depth, cells)
 }

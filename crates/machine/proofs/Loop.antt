@@ -40,58 +40,67 @@ step-sound program m h =
     }
 
 -- the run from here is the whole run
-pub record Under (program : List ℕ) (budget : ℕ) (start m : Machine) (steps : ℕ) : Type 0 where
+pub record Under (program : List ℕ) (budget : ℕ) (start m : Machine) (left : ℕ) : Type 0 where
   pub same-mem : length (m .mem) ≡ length (start .mem)
   pub same-cells : length (m .cells) ≡ length (start .cells)
   pub deep : m .state .depth ≤ length (m .cells)
-  pub within : steps ≤ budget
+  pub within : left ≤ budget
   pub on : m .state .status ≡ Running
-  pub whole : runOf (budget - steps) program m steps ≡ runOf budget program start 0
+  pub whole : runOf left program m (budget - left) ≡ runOf budget program start 0
 
 running : (m : Machine) → m .state .status ≡ Running → isRunning (m .state .status) ≡ true
 running m e = ap isRunning e
 
-module _ (program : List ℕ) (budget : ℕ) (start m m′ : Machine) (steps : ℕ) (u : Under program budget start m steps) (l : steps < budget) (e : m′ ≡ stepOf program m) where
+module _ (program : List ℕ) (budget : ℕ) (start m m′ : Machine) (left : ℕ) (u : Under program budget start m left) (l : 0 < left) (e : m′ ≡ stepOf program m) where
   sound : Sound m m′
   sound = rw e (step-sound program m (u .deep))
 
-  left : budget - steps ≡ suc (budget - (steps + 1))
-  left = omega arith
+  falls : left ≡ suc (left - 1)
+  falls = omega arith
 
-  goes : isFaulted (m′ .state .status) ≡ false → runOf (budget - (steps + 1)) program m′ (steps + 1) ≡ runOf budget program start 0
+  counts : budget - (left - 1) ≡ budget - left + 1
+  counts = omega (arith, u .within)
+
+  goes : isFaulted (m′ .state .status) ≡ false → runOf (left - 1) program m′ (budget - left + 1) ≡ runOf budget program start 0
   goes f =
       let g : isFaulted (stepOf program m .state .status) ≡ false = rw (← e) f in
-      rw e (sym (run-steps program m steps (budget - steps) (budget - (steps + 1)) left (running m (u .on)) g) ∙ u .whole)
+      rw e (sym (run-steps program m (budget - left) left (left - 1) falls (running m (u .on)) g) ∙ u .whole)
 
   -- still running
-  pub turned : m′ .state .status ≡ Running → Under program budget start m′ (steps + 1)
+  pub turned : m′ .state .status ≡ Running → Under program budget start m′ (left - 1)
   turned r =
       let s = sound in
       record {
         same-mem = omega (arith, s .same-mem, u .same-mem);
         same-cells = omega (arith, s .same-cells, u .same-cells);
         deep = s .deep;
-        within = omega arith;
+        within = omega (arith, u .within);
         on = r;
-        whole = goes (ap isFaulted r);
+        whole = ap (λ (k : ℕ). runOf (left - 1) program m′ k) counts ∙ goes (ap isFaulted r);
       }
 
   -- halted: the step counts
-  pub ended : m′ .state .status ≡ Halted → came m′ (steps + 1) ≡ runOf budget program start 0
-  ended r = sym (run-stopped program m′ (steps + 1) (budget - (steps + 1)) (ap isRunning r)) ∙ goes (ap isFaulted r)
+  pub ended : m′ .state .status ≡ Halted → came m′ (budget - (left - 1)) ≡ runOf budget program start 0
+  ended r = ap (λ (k : ℕ). came m′ k) counts ∙ sym (run-stopped program m′ (budget - left + 1) (left - 1) (ap isRunning r)) ∙ goes (ap isFaulted r)
 
   -- faulted: it does not
-  pub failed : (n : ℕ) → m′ .state .status ≡ Faulted n → came m′ steps ≡ runOf budget program start 0
+  pub failed : (n : ℕ) → m′ .state .status ≡ Faulted n → came m′ (budget - left) ≡ runOf budget program start 0
   failed n r =
       let g : isFaulted (stepOf program m .state .status) ≡ true = rw (← e) (ap isFaulted r) in
-      rw e (sym (run-faults program m steps (budget - steps) (budget - (steps + 1)) left (running m (u .on)) g) ∙ u .whole)
+      rw e (sym (run-faults program m (budget - left) left (left - 1) falls (running m (u .on)) g) ∙ u .whole)
 
 -- the budget is used
-pub used : (program : List ℕ) (budget : ℕ) (start m : Machine) (steps : ℕ) → Under program budget start m steps → budget ≤ steps → came m steps ≡ runOf budget program start 0
-used program budget start m steps u l = sym (run-used program m steps (budget - steps) (omega arith)) ∙ u .whole
+pub used : (program : List ℕ) (budget : ℕ) (start m : Machine) (left : ℕ) → Under program budget start m left → left ≤ 0 → came m (budget - left) ≡ runOf budget program start 0
+used program budget start m left u l = sym (run-used program m (budget - left) left (omega arith)) ∙ u .whole
 
 -- as the loop begins
-pub begun : (program : List ℕ) (budget : ℕ) (start : Machine) → start .state .depth ≤ length (start .cells) → start .state .status ≡ Running → Under program budget start start 0
+pub begun : (program : List ℕ) (budget : ℕ) (start : Machine) → start .state .depth ≤ length (start .cells) → start .state .status ≡ Running → Under program budget start start budget
 begun program budget start h r =
-    let z : budget - 0 ≡ budget = omega arith in
-    record { same-mem = refl; same-cells = refl; deep = h; within = omega arith; on = r; whole = ap (λ (n : ℕ). runOf n program start 0) z }
+    let z : budget - budget ≡ 0 = omega arith in
+    record { same-mem = refl; same-cells = refl; deep = h; within = omega arith; on = r; whole = ap (λ (k : ℕ). runOf budget program start k) z }
+
+-- a stopped state comes back as it was, and the whole budget with it
+pub rested : (program : List ℕ) (budget : ℕ) (start : Machine) → isRunning (start .state .status) ≡ false → came start (budget - budget) ≡ runOf budget program start 0
+rested program budget start h =
+    let z : budget - budget ≡ 0 = omega arith in
+    ap (λ (k : ℕ). came start k) z ∙ sym (run-stopped program start 0 budget h)

@@ -1,9 +1,9 @@
 // The machine: a state that is handed in and handed back, stepped over lent memories.
 ghost use mathlib.Core.Path.{_≡_};
-ghost use Prim.Native.Nat.{_≤_};
+ghost use Prim.Native.Nat.{_-_, _≤_};
 ghost use lib.ListN.{length};
 ghost use Rattle.machine.specs.Machine.{machine, fresh, stateAfter, stepOf};
-ghost use Rattle.machine.specs.Run.{runOf, outcomeOf, ranOutcome};
+ghost use Rattle.machine.specs.Run.{came, runOf, outcomeOf, ranOutcome};
 use effects::Move;
 
 // Running, halted, or faulted with its number.
@@ -24,6 +24,12 @@ pub struct State {
 pub enum Ran {
     Came(State, u32),
     Refused(usize, State),
+}
+
+// Where a run over memories of allowed sizes came to, and what is left of its budget.
+struct Went {
+    state: State,
+    left: u32,
 }
 
 impl State {
@@ -71,38 +77,42 @@ impl State {
     }
 
     // The run over memories of allowed sizes.
-    fn went(self, program: &[u8], data: &mut [u8], cells: &mut [u16], budget: u32) -> Ran
+    fn went(self, program: &[u8], data: &mut [u8], cells: &mut [u16], budget: u32) -> Went
         requires { ⌜ (length (now program) ≤ 16384) × (self .depth ≤ length (now cells)) ⌝ }
-        ensures { λ r. ⌜ ranOutcome r (now («data» .exit)) (now (cells .exit)) ≡ runOf budget (now (program .entry)) (machine self (now («data» .entry)) (now (cells .entry))) 0 ⌝ }
+        ensures { λ r. ⌜ came (machine (r .state) (now («data» .exit)) (now (cells .exit))) (budget - r .left) ≡ runOf budget (now (program .entry)) (machine self (now («data» .entry)) (now (cells .entry))) 0 ⌝ }
+        ensures { λ r. ⌜ r .left ≤ budget ⌝ }
     {
         let mut state = self;
-        let mut steps: u32 = 0;
+        let mut left: u32 = budget;
         let first = state.status;
         match first {
             Status::Running => {}
             Status::Halted => {
-                return Ran::Came(state, 0);
+                return Went { state, left };
             }
             Status::Faulted(_) => {
-                return Ran::Came(state, 0);
+                return Went { state, left };
             }
         }
-        while steps < budget {
+        while 0 < left {
             state = state.stepped(program, data, cells);
             let status = state.status;
             match status {
                 Status::Running => {
-                    steps = steps + 1;
+                    left = left - 1;
                 }
                 Status::Halted => {
-                    return Ran::Came(state, steps + 1);
+                    return Went {
+                        state,
+                        left: left - 1,
+                    };
                 }
                 Status::Faulted(_) => {
-                    return Ran::Came(state, steps);
+                    return Went { state, left };
                 }
             }
         }
-        Ran::Came(state, steps)
+        Went { state, left }
     }
 
     // At most `budget` steps.
@@ -122,7 +132,9 @@ impl State {
         if cells.len() < depth {
             return Ran::Refused(24, self);
         }
-        self.went(program, data, cells, budget)
+        let went = self.went(program, data, cells, budget);
+        let state = went.state;
+        Ran::Came(state, budget - went.left)
     }
 
     // One step: a run with a budget of one.

@@ -82,7 +82,7 @@ pub fn push_values(
     if cells.len() - depth < count as usize {
         return Move::Fault(5, 0);
     }
-    // it is `end`, but a processor that foresees the branches need not wait for the flags to be counted
+    // it is `end`, told by the last value's place
     let next = push_all(count, flags, program, address + 1, depth, cells);
     Move::To(next, depth + count as usize)
 }

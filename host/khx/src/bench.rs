@@ -20,7 +20,9 @@ usage: khx bench [--seconds N] [CASE..]
 
 Times the proved library against plain careful C that does the same checks, by gcc
 -O2, gcc -O3 and, where it was installed when khx was built, clang -O3: the fastest of
-them is the yardstick. Says whether the targets are met. Without a CASE, all of them.
+them is the yardstick. Where code lies in memory moves its time, so each side is linked
+and timed at four places, 16 bytes apart, and the means are compared. Says whether the
+targets are met; short and pack-check have none. Without a CASE, all of them.
 
   --seconds N   how long to time, all cases together (default 10)
 
@@ -29,11 +31,15 @@ cases:
 
 /// What holds for all figures.
 const CONDITIONS: &str = "\
-Before timing, all sides gave the same answers and left the same memories.
-Buffers are cleared first: each timed part starts from the same data, cells and map,
-laid out anew outside the timed part. The sides take turns in one process, in
-alternating order; a time is the least of all rounds.
-A ratio is C's time by ours: over 1, ours is faster. C's time is that of its fastest build.
+Before timing, all sides gave the same answers and left the same memories at all places.
+Each function that is timed is linked four times, 0, 16, 32 and 48 bytes past a multiple
+of 64. The sides take turns at all their places in one process, in alternating order,
+each timed part from the same data, cells and map, laid out anew outside it; the time at
+a place is the least of all rounds, and a side's time is the mean of its four places.
+The C build with the least mean is the yardstick. A ratio is C's mean by ours: over 1,
+ours is faster. On x86-64 the library fixes the place of its run, so that every program
+has it there: as shipped, our time at that place, and by it C's at its fastest place, by
+its fastest build.
 ";
 
 /// The seconds, and the cases that are asked for.
@@ -42,8 +48,8 @@ struct Wanted {
     cases: Vec<Case>,
 }
 
-/// Gives the exit status: 0, 1 where the sides give different answers, 2 for bad
-/// usage. A target that is missed is told, and is no failure.
+/// Gives the exit status: 0, 1 where the sides give different answers or do not lie at
+/// their places, 2 for bad usage. A target that is missed is told, and is no failure.
 pub fn main(args: &[String]) -> i32 {
     let text = if args.iter().any(|word| word == "--help" || word == "-h") {
         Ok(help())
@@ -105,6 +111,7 @@ fn wrong(message: String) -> Failure {
 
 /// Times the cases and gives the whole report.
 fn bench(mut wanted: Wanted) -> Result<String, Failure> {
+    peer::check_places().map_err(Failure::Refused)?;
     for case in &mut wanted.cases {
         case.agree().map_err(Failure::Refused)?;
     }
@@ -158,6 +165,11 @@ mod tests {
         for mut case in cases::all() {
             case.agree().unwrap();
         }
+    }
+
+    #[test]
+    fn every_copy_lies_at_its_place() {
+        assert_eq!(peer::check_places(), Ok(()));
     }
 
     #[test]

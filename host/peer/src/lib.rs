@@ -1,50 +1,21 @@
-//! Plain careful C to measure the proved library against, behind a safe face. A
-//! refusal is a number, 0 for none.
+//! What `khx bench` times: the functions of the proved library, and plain careful C that
+//! does the same, behind a safe face. A refusal is a number, 0 for none.
+//!
+//! Where a loop lies modulo 64 alone moves its time, so build.rs links each function at
+//! four places, and no side is measured at a lucky one.
 
-/// The status of a machine that runs; else it is [`HALTED`] or a fault's number.
-pub const RUNNING: u32 = 0;
-/// The status of a machine that has halted.
-pub const HALTED: u32 = 100;
+mod functions;
 
-/// A machine's state.
-#[repr(C)]
-#[derive(Clone, Copy, Debug, PartialEq, Eq)]
-pub struct State {
-    pub address: u32,
-    pub depth: u32,
-    pub status: u32,
-}
+use functions::{copies, Copies, PackCheck, Run, Verify, VerifyByCursor};
+pub use functions::{Cursor, Form, Functions, Measured, Plain, Proved, HALTED};
 
-/// What a run came to.
-#[repr(C)]
-#[derive(Clone, Copy, Debug, PartialEq, Eq)]
-pub struct Ran {
-    pub refusal: u32,
-    pub steps: u32,
-    pub state: State,
-}
+/// Each function is linked so many times.
+pub const PLACES: usize = 4;
 
-/// What a verifier says.
-#[repr(C)]
-#[derive(Clone, Copy, Debug, PartialEq, Eq)]
-pub struct Verdict {
-    pub refusal: u32,
-    pub at: u32,
-}
-
-/// What the check of a pack says.
-#[repr(C)]
-#[derive(Clone, Copy, Debug, PartialEq, Eq)]
-pub struct Checked {
-    pub refusal: u32,
-    pub entries: u32,
-}
-
-type RunIn =
-    unsafe extern "C" fn(State, *const u8, usize, *mut u8, usize, *mut u16, usize, u32) -> Ran;
-type VerifyIn = unsafe extern "C" fn(*const u8, usize, usize, *mut u16, usize, *mut u8) -> Verdict;
-type VerifyBitmapIn = unsafe extern "C" fn(*const u8, usize, usize, *mut u16, usize) -> Verdict;
-type PackCheckIn = unsafe extern "C" fn(*const u8, usize) -> Checked;
+/// The first copy begins at a multiple of `LINE`, and each next one so many bytes further
+/// past one: the places that a linker can give a function that asks for no more.
+pub const APART: usize = 16;
+const LINE: usize = 64;
 
 /// The C as one compiler made it at one level.
 pub struct Build {
@@ -52,147 +23,125 @@ pub struct Build {
     pub name: &'static str,
     /// The compiler's own words for its version.
     pub version: &'static str,
-    run: RunIn,
-    verify: VerifyIn,
-    verify_bitmap: VerifyBitmapIn,
-    pack_check: PackCheckIn,
+    /// Its functions; the verifier is the one with a bitmap.
+    pub functions: Functions<Plain>,
+    /// Its verifier with a cursor.
+    pub cursor: Cursor,
 }
 
-macro_rules! build {
-    ($name:literal, $version:expr, $run:ident, $verify:ident, $verify_bitmap:ident, $pack_check:ident) => {{
-        extern "C" {
-            fn $run(
-                state: State,
-                program: *const u8,
-                program_length: usize,
-                data: *mut u8,
-                data_length: usize,
-                cells: *mut u16,
-                cells_length: usize,
-                budget: u32,
-            ) -> Ran;
-            fn $verify(
-                program: *const u8,
-                program_length: usize,
-                cells: usize,
-                map: *mut u16,
-                map_length: usize,
-                done: *mut u8,
-            ) -> Verdict;
-            fn $verify_bitmap(
-                program: *const u8,
-                program_length: usize,
-                cells: usize,
-                map: *mut u16,
-                map_length: usize,
-            ) -> Verdict;
-            fn $pack_check(pack: *const u8, pack_length: usize) -> Checked;
+/// The functions of a side, from the names of their copies.
+macro_rules! functions {
+    ($form:ty, $run:tt $verify:tt $pack_check:tt) => {
+        Functions {
+            run: copies!(Run<$form>, $run),
+            verify: copies!(Verify<$form>, $verify),
+            pack_check: copies!(PackCheck<$form>, $pack_check),
         }
-        Build {
+    };
+}
+
+/// The sides, from the names of their copies.
+macro_rules! sides {
+    (
+        proved $run:tt $verify:tt $pack_check:tt;
+        $($name:literal $version:literal $c_run:tt $c_verify:tt $c_pack_check:tt $c_cursor:tt;)*
+    ) => {
+        /// The proved library.
+        pub static PROVED: Functions<Proved> = functions!(Proved, $run $verify $pack_check);
+
+        /// The builds of the C that are measured: what a user would write instead is
+        /// compiled by the best compiler at hand.
+        pub static BUILDS: &[Build] = &[$(Build {
             name: $name,
             version: $version,
-            run: $run,
-            verify: $verify,
-            verify_bitmap: $verify_bitmap,
-            pack_check: $pack_check,
-        }
-    }};
+            functions: functions!(Plain, $c_run $c_verify $c_pack_check),
+            cursor: Cursor(copies!(VerifyByCursor, $c_cursor)),
+        }),*];
+    };
 }
 
-/// The builds that are measured: what a user would write instead is compiled by the
-/// best compiler at hand.
-pub static BUILDS: &[Build] = &[
-    build!(
-        "gcc -O2",
-        env!("PEER_GCC"),
-        peer_run_gcc_o2,
-        peer_verify_gcc_o2,
-        peer_verify_bitmap_gcc_o2,
-        peer_pack_check_gcc_o2
-    ),
-    build!(
-        "gcc -O3",
-        env!("PEER_GCC"),
-        peer_run_gcc_o3,
-        peer_verify_gcc_o3,
-        peer_verify_bitmap_gcc_o3,
-        peer_pack_check_gcc_o3
-    ),
-    #[cfg(peer_clang)]
-    build!(
-        "clang -O3",
-        env!("PEER_CLANG"),
-        peer_run_clang_o3,
-        peer_verify_clang_o3,
-        peer_verify_bitmap_clang_o3,
-        peer_pack_check_clang_o3
-    ),
-];
+// What build.rs linked, as `sides!` takes it.
+include!(concat!(env!("OUT_DIR"), "/sides.rs"));
 
-impl Build {
-    /// At most `budget` steps.
-    pub fn run(
-        &self,
-        state: State,
-        program: &[u8],
-        data: &mut [u8],
-        cells: &mut [u16],
-        budget: u32,
-    ) -> Ran {
-        // SAFETY: each pointer is a slice's own, with its length.
-        unsafe {
-            (self.run)(
-                state,
-                program.as_ptr(),
-                program.len(),
-                data.as_mut_ptr(),
-                data.len(),
-                cells.as_mut_ptr(),
-                cells.len(),
-                budget,
-            )
+/// At which of the places the library's own `khx_run` lies, here and in every program:
+/// tools/placed fixes it in the library for x86-64.
+pub fn shipped_place() -> Option<usize> {
+    let [run] = copies!(Run<Proved>, [khx_run]);
+    if cfg!(target_arch = "x86_64") {
+        place_of(run as usize)
+    } else {
+        None
+    }
+}
+
+/// The place of an address, if it is one of them.
+fn place_of(address: usize) -> Option<usize> {
+    let past = address % LINE;
+    (past % APART == 0).then(|| past / APART)
+}
+
+/// An error where a copy does not lie where it should.
+pub fn check_places() -> Result<(), String> {
+    check_functions("the proved library", &PROVED)?;
+    for build in BUILDS {
+        let side = format!("C by {}", build.name);
+        check_functions(&side, &build.functions)?;
+        let cursor = build.cursor.0.map(|copy| copy as usize);
+        check(&side, "verify with a cursor", cursor)?;
+    }
+    Ok(())
+}
+
+fn check_functions<F: Form>(side: &str, functions: &Functions<F>) -> Result<(), String> {
+    check(side, "run", functions.run.map(|copy| copy as usize))?;
+    check(side, "verify", functions.verify.map(|copy| copy as usize))?;
+    let pack_check = functions.pack_check.map(|copy| copy as usize);
+    check(side, "pack check", pack_check)
+}
+
+/// An error where one of the addresses is not what its place says.
+fn check(side: &str, function: &str, addresses: Copies<usize>) -> Result<(), String> {
+    for (place, address) in addresses.iter().enumerate() {
+        let (past, wanted) = (address % LINE, APART * place);
+        if past != wanted {
+            return Err(format!(
+                "{function} of {side} begins {past} bytes past a multiple of {LINE}, where \
+                 host/peer/build.rs laid it at {wanted}: its compiler or the linker of khx \
+                 aligns it otherwise, so this khx measures nothing"
+            ));
         }
     }
+    Ok(())
+}
 
-    /// The depth map by a cursor; `done` has as many bytes as the program.
-    pub fn verify(
-        &self,
-        program: &[u8],
-        cells: usize,
-        map: &mut [u16],
-        done: &mut [u8],
-    ) -> Verdict {
-        assert_eq!(done.len(), program.len());
-        // SAFETY: each pointer is a slice's own, with its length; `done` has the program's.
-        unsafe {
-            (self.verify)(
-                program.as_ptr(),
-                program.len(),
-                cells,
-                map.as_mut_ptr(),
-                map.len(),
-                done.as_mut_ptr(),
-            )
-        }
+#[cfg(test)]
+mod tests {
+    use super::*;
+
+    #[test]
+    fn every_copy_lies_at_its_place() {
+        assert_eq!(check_places(), Ok(()));
     }
 
-    /// The depth map by a bitmap of the addresses still due.
-    pub fn verify_bitmap(&self, program: &[u8], cells: usize, map: &mut [u16]) -> Verdict {
-        // SAFETY: each pointer is a slice's own, with its length.
-        unsafe {
-            (self.verify_bitmap)(
-                program.as_ptr(),
-                program.len(),
-                cells,
-                map.as_mut_ptr(),
-                map.len(),
-            )
-        }
+    #[test]
+    fn a_copy_that_was_moved_is_noticed() {
+        let at = |addresses| check("C", "run", addresses);
+        assert_eq!(at([0x1000, 0x2050, 0x30A0, 0x4070]), Ok(()));
+        let told = at([0x1000, 0x2050, 0x30B0, 0x4070]).unwrap_err();
+        let begins = "run of C begins 48 bytes past a multiple of 64, where";
+        assert!(told.starts_with(begins), "{told}");
     }
 
-    /// Checks a whole pack.
-    pub fn pack_check(&self, pack: &[u8]) -> Checked {
-        // SAFETY: the pointer is the slice's own, with its length.
-        unsafe { (self.pack_check)(pack.as_ptr(), pack.len()) }
+    #[test]
+    fn the_place_of_an_address() {
+        let places = [0x1000, 0x1010, 0x1020, 0x1030, 0x1040].map(place_of);
+        assert_eq!(places, [Some(0), Some(1), Some(2), Some(3), Some(0)]);
+        assert_eq!(place_of(0x1008), None);
+    }
+
+    #[test]
+    fn gcc_is_always_measured() {
+        let names: Vec<&str> = BUILDS.iter().map(|build| build.name).collect();
+        assert_eq!(names[..2], ["gcc -O2", "gcc -O3"]);
     }
 }

@@ -2,6 +2,8 @@
 
 use std::fmt;
 
+use peer::{Measured, PLACES};
+
 /// Who does the work.
 #[derive(Clone, Copy, Debug, PartialEq, Eq)]
 pub enum Side {
@@ -11,6 +13,16 @@ pub enum Side {
     C(usize),
     /// A build of C's verifier with a cursor.
     Cursor(usize),
+}
+
+impl Side {
+    /// What it has as all sides do; C's verifier is the one with a bitmap.
+    pub fn functions(self) -> &'static dyn Measured {
+        match self {
+            Side::Proved => &peer::PROVED,
+            Side::C(build) | Side::Cursor(build) => &peer::BUILDS[build].functions,
+        }
+    }
 }
 
 impl fmt::Display for Side {
@@ -50,11 +62,16 @@ pub trait Work {
     /// Lays the memories out anew.
     fn clear(&mut self);
 
-    /// Does the work once.
-    fn call(&mut self, side: Side) -> Answer;
+    /// Does the work once, by a side's copy at one of its places.
+    fn call(&mut self, side: Side, place: usize) -> Answer;
 
     /// The memories as they are.
     fn memories(&self) -> (Vec<u8>, Vec<u16>);
+
+    /// At which place the library as it is shipped does this work, where that is fixed.
+    fn shipped_place(&self) -> Option<usize> {
+        None
+    }
 }
 
 /// What a case's times are told for.
@@ -77,13 +94,14 @@ pub struct Case {
 }
 
 impl Case {
-    /// An error where two sides give different answers or leave different memories.
+    /// An error where two copies, of one side or of two, give different answers or leave
+    /// different memories.
     pub fn agree(&mut self) -> Result<(), String> {
-        let ours = self.outcome(Side::Proved);
-        for side in self.sides.clone() {
-            if self.outcome(side) != ours {
+        let ours = self.outcome(Side::Proved, 0);
+        for (side, place) in self.copies() {
+            if self.outcome(side, place) != ours {
                 return Err(format!(
-                    "{}: {side} and the proved library differ",
+                    "{}: {side}, copy {place}, and the proved library differ",
                     self.name
                 ));
             }
@@ -91,10 +109,22 @@ impl Case {
         Ok(())
     }
 
-    /// What one side comes to from the memories as laid out.
-    pub fn outcome(&mut self, side: Side) -> Outcome {
+    /// Each side at each place, the sides in turn.
+    pub fn copies(&self) -> Vec<(Side, usize)> {
+        let at = |place| self.sides.iter().map(move |&side| (side, place));
+        (0..PLACES).flat_map(at).collect()
+    }
+
+    /// Whether a call on the memories that a call has left gives the same numbers again.
+    pub fn repeats(&mut self) -> bool {
         self.work.clear();
-        let answer = self.work.call(side);
+        self.work.call(Side::Proved, 0) == self.work.call(Side::Proved, 0)
+    }
+
+    /// What one copy comes to from the memories as laid out.
+    pub fn outcome(&mut self, side: Side, place: usize) -> Outcome {
+        self.work.clear();
+        let answer = self.work.call(side, place);
         let (bytes, cells) = self.work.memories();
         Outcome {
             answer,
@@ -108,7 +138,8 @@ impl Case {
 mod tests {
     use super::*;
 
-    /// Work in which one build of C differs in one number, or leaves another memory.
+    /// Work in which one copy of one build of C differs in one number, or leaves another
+    /// memory.
     struct Unlike {
         answer: u32,
         memory: u8,
@@ -120,8 +151,8 @@ mod tests {
             self.left = 0;
         }
 
-        fn call(&mut self, side: Side) -> Answer {
-            if side != Side::C(1) {
+        fn call(&mut self, side: Side, place: usize) -> Answer {
+            if (side, place) != (Side::C(1), 3) {
                 return [0; 5];
             }
             self.left = self.memory;
@@ -152,7 +183,7 @@ mod tests {
     #[test]
     fn a_difference_is_noticed() {
         assert_eq!(agree(0, 0), Ok(()));
-        let told = Err("unlike: C by gcc -O3 and the proved library differ".to_string());
+        let told = Err("unlike: C by gcc -O3, copy 3, and the proved library differ".to_string());
         assert_eq!(agree(1, 0), told);
         assert_eq!(agree(0, 1), told);
     }

@@ -1,9 +1,14 @@
 //! The cases, each with the work of its sides.
 
-use khalixoshi::{pack, State, Status, CELLS_MAX, PACK_MAX, UNMET};
+use khalixoshi::{pack, CELLS_MAX, PACK_MAX, UNMET};
 
 use super::case::{self, Answer, Case, Side, Unit, Work};
 use super::programs;
+
+/// The rules that ship in examples/, and the tags of two of them.
+const RULES: &[u8] = include_bytes!("../../../../examples/fonts.pack");
+const OS2: u16 = 5;
+const LOCA: u16 = 8;
 
 /// All cases, in the order in which they are timed.
 pub fn all() -> Vec<Case> {
@@ -28,6 +33,19 @@ pub fn all() -> Vec<Case> {
             "run: push-values of every form, until the stack is nearly full",
             Run::of(programs::pushes(), Vec::new(), CELLS_MAX),
         ),
+        run(
+            "loca",
+            "run: the shipped rule for loca over a real table of 3,378 offsets",
+            Run::of_rule(LOCA, include_bytes!("tables/loca")),
+        ),
+        Case {
+            unit: Unit::Call,
+            ..run(
+                "short",
+                "run: the shipped rule for OS/2 over a real table, 47 steps, each call from a fresh state",
+                Run::of_rule(OS2, include_bytes!("tables/os2")),
+            )
+        },
         verify(
             "verify-straight",
             "verify: 16 KB, 16,384 instructions, no jump",
@@ -59,7 +77,7 @@ pub fn all() -> Vec<Case> {
 }
 
 fn run(name: &'static str, about: &'static str, mut work: Run) -> Case {
-    let [_, steps, ..] = work.call(Side::Proved);
+    let [_, steps, ..] = work.call(Side::Proved, 0);
     Case {
         name,
         about,
@@ -71,7 +89,7 @@ fn run(name: &'static str, about: &'static str, mut work: Run) -> Case {
 
 fn verify(name: &'static str, about: &'static str, program: Vec<u8>) -> Case {
     let mut work = Verify::of(program);
-    work.call(Side::Proved);
+    work.call(Side::Proved, 0);
     let met = work.map.iter().filter(|&&depth| depth != UNMET).count();
     Case {
         name,
@@ -100,45 +118,11 @@ impl Run {
         }
     }
 
-    fn proved(&mut self) -> Answer {
-        let (data, cells) = (&mut self.data, &mut self.cells);
-        match State::fresh().run(&self.program, data, cells, u32::MAX) {
-            Ok(ran) => [
-                0,
-                ran.steps,
-                ran.state.address as u32,
-                ran.state.depth as u32,
-                status_number(ran.state.status),
-            ],
-            Err(error) => [error.number() as u32, 0, 0, 0, 0],
-        }
-    }
-
-    fn c(&mut self, build: usize) -> Answer {
-        let fresh = peer::State {
-            address: 0,
-            depth: 0,
-            status: peer::RUNNING,
-        };
-        let (data, cells) = (&mut self.data, &mut self.cells);
-        let ran = peer::BUILDS[build].run(fresh, &self.program, data, cells, u32::MAX);
-        let state = ran.state;
-        [
-            ran.refusal,
-            ran.steps,
-            state.address,
-            state.depth,
-            state.status,
-        ]
-    }
-}
-
-/// A status as C numbers it.
-fn status_number(status: Status) -> u32 {
-    match status {
-        Status::Running => peer::RUNNING,
-        Status::Halted => peer::HALTED,
-        Status::Faulted(fault) => fault.0 as u32,
+    /// A shipped rule over what a host lends it (examples/README.md), with its cells.
+    fn of_rule(tag: u16, lent: &[u8]) -> Run {
+        let rule = pack::find(RULES, tag).expect("the shipped pack has the rule");
+        let body = pack::body(RULES, &rule);
+        Run::of(body.to_vec(), lent.to_vec(), rule.cells.into())
     }
 }
 
@@ -148,15 +132,17 @@ impl Work for Run {
         self.cells.fill(0);
     }
 
-    fn call(&mut self, side: Side) -> Answer {
-        match side {
-            Side::Proved => self.proved(),
-            Side::C(build) | Side::Cursor(build) => self.c(build),
-        }
+    fn call(&mut self, side: Side, place: usize) -> Answer {
+        let (data, cells) = (&mut self.data, &mut self.cells);
+        side.functions().run(place, &self.program, data, cells)
     }
 
     fn memories(&self) -> (Vec<u8>, Vec<u16>) {
         (self.data.clone(), self.cells.clone())
+    }
+
+    fn shipped_place(&self) -> Option<usize> {
+        peer::shipped_place()
     }
 }
 
@@ -175,20 +161,11 @@ impl Verify {
             program,
         }
     }
-
-    fn proved(&mut self) -> Answer {
-        match khalixoshi::verify(&self.program, CELLS_MAX, &mut self.map) {
-            Ok(()) => [0; 5],
-            Err(refused) => verdict(
-                refused.error.number() as u32,
-                refused.at.unwrap_or(0) as u32,
-            ),
-        }
-    }
 }
 
-fn verdict(refusal: u32, at: u32) -> Answer {
-    [refusal, at, 0, 0, 0]
+/// Two numbers as an answer.
+fn answer([refusal, number]: [u32; 2]) -> Answer {
+    [refusal, number, 0, 0, 0]
 }
 
 impl Work for Verify {
@@ -197,18 +174,15 @@ impl Work for Verify {
         self.done.fill(0);
     }
 
-    fn call(&mut self, side: Side) -> Answer {
-        let said = match side {
-            Side::Proved => return self.proved(),
-            Side::C(build) => {
-                peer::BUILDS[build].verify_bitmap(&self.program, CELLS_MAX, &mut self.map)
-            }
+    fn call(&mut self, side: Side, place: usize) -> Answer {
+        let (program, map) = (&self.program, &mut self.map);
+        answer(match side {
+            Side::Proved | Side::C(_) => side.functions().verify(place, program, CELLS_MAX, map),
             Side::Cursor(build) => {
-                let (map, done) = (&mut self.map, &mut self.done);
-                peer::BUILDS[build].verify(&self.program, CELLS_MAX, map, done)
+                let cursor = &peer::BUILDS[build].cursor;
+                cursor.verify(place, program, CELLS_MAX, map, &mut self.done)
             }
-        };
-        verdict(said.refusal, said.at)
+        })
     }
 
     fn memories(&self) -> (Vec<u8>, Vec<u16>) {
@@ -224,17 +198,8 @@ struct PackCheck {
 impl Work for PackCheck {
     fn clear(&mut self) {}
 
-    fn call(&mut self, side: Side) -> Answer {
-        match side {
-            Side::Proved => match pack::check(&self.pack) {
-                Ok(entries) => [0, entries as u32, 0, 0, 0],
-                Err(error) => [error.number() as u32, 0, 0, 0, 0],
-            },
-            Side::C(build) | Side::Cursor(build) => {
-                let checked = peer::BUILDS[build].pack_check(&self.pack);
-                [checked.refusal, checked.entries, 0, 0, 0]
-            }
-        }
+    fn call(&mut self, side: Side, place: usize) -> Answer {
+        answer(side.functions().pack_check(place, &self.pack))
     }
 
     fn memories(&self) -> (Vec<u8>, Vec<u16>) {
@@ -256,4 +221,37 @@ fn full_pack() -> Vec<u8> {
         })
         .collect();
     pack::build(&rules).expect("64 entries and 24,576 bytes are allowed")
+}
+
+#[cfg(test)]
+mod tests {
+    use super::*;
+
+    fn case(name: &str) -> Case {
+        let named = |case: &Case| case.name == name;
+        all().into_iter().find(named).expect("a case")
+    }
+
+    /// The steps of a shipped rule that halts with its verdict alone on the stack: 1, good.
+    fn steps_to_good(name: &str) -> u32 {
+        let outcome = case(name).outcome(Side::Proved, 0);
+        let [refusal, steps, _, depth, status] = outcome.answer;
+        assert_eq!((refusal, depth, status), (0, 1, peer::HALTED), "{name}");
+        assert_eq!(outcome.cells.last(), Some(&1), "{name}");
+        steps
+    }
+
+    #[test]
+    fn the_shipped_rules_find_the_real_tables_good() {
+        assert_eq!(steps_to_good("loca"), 152_097);
+        let steps = steps_to_good("short");
+        assert!(case("short").about.contains(&format!(" {steps} steps")));
+    }
+
+    #[test]
+    fn only_the_rule_for_loca_must_begin_anew() {
+        for mut case in all() {
+            assert_eq!(case.repeats(), case.name != "loca", "{}", case.name);
+        }
+    }
 }

@@ -1,41 +1,56 @@
 //! What was measured, as lines, and whether it is what was aimed at.
 
 use super::case::{Case, Side, Unit};
-use super::clock::Timed;
+use super::clock::{Timed, Times};
 
-/// The times of a case, in nanoseconds of a call; of C by each of its builds.
+/// The times of a case; of C by each of its builds.
 pub struct Finding {
     name: &'static str,
     unit: Unit,
-    ours: f64,
-    c: Vec<f64>,
-    cursor: Vec<f64>,
+    ours: Times,
+    /// The place at which the library has it, where that is fixed.
+    shipped: Option<usize>,
+    c: Vec<Times>,
+    cursor: Vec<Times>,
     rounds: u32,
 }
 
 impl Finding {
     pub fn of(case: &Case, timed: &Timed) -> Finding {
-        let mut finding = Finding {
+        let of = |wanted: fn(Side) -> bool| -> Vec<Times> {
+            let times = timed.times.iter().filter(|(side, _)| wanted(*side));
+            times.map(|(_, times)| *times).collect()
+        };
+        Finding {
             name: case.name,
             unit: case.unit,
-            ours: f64::NAN,
-            c: Vec::new(),
-            cursor: Vec::new(),
+            ours: of(|side| side == Side::Proved)[0],
+            shipped: case.work.shipped_place(),
+            c: of(|side| matches!(side, Side::C(_))),
+            cursor: of(|side| matches!(side, Side::Cursor(_))),
             rounds: timed.rounds,
-        };
-        for (side, &time) in case.sides.iter().zip(&timed.nanoseconds) {
-            match side {
-                Side::Proved => finding.ours = time,
-                Side::C(_) => finding.c.push(time),
-                Side::Cursor(_) => finding.cursor.push(time),
-            }
         }
-        finding
     }
 
-    /// The fastest C's time by ours.
+    /// A side's mean by ours.
+    fn ratio_to(&self, times: &Times) -> f64 {
+        times.mean() / self.ours.mean()
+    }
+
+    /// The fastest C's mean by ours.
     fn ratio(&self) -> f64 {
-        least_of(&self.c) / self.ours
+        self.ratio_to(&self.c[fastest(&self.c)])
+    }
+
+    /// C's time where it is fastest, by whatever build, by our time at a place.
+    fn ratio_at(&self, place: usize) -> f64 {
+        let c = self.c.iter().map(Times::least);
+        c.fold(f64::INFINITY, f64::min) / self.ours.0[place]
+    }
+
+    /// The same at the place at which the library has it.
+    fn ratio_shipped(&self) -> Option<f64> {
+        self.shipped.map(|place| self.ratio_at(place))
     }
 
     fn is_run(&self) -> bool {
@@ -49,7 +64,7 @@ impl Finding {
     /// Our time for an instruction examined.
     fn instruction(&self) -> f64 {
         match self.unit {
-            Unit::Instructions(count) => self.ours / f64::from(count),
+            Unit::Instructions(count) => self.ours.mean() / f64::from(count),
             Unit::Step(_) | Unit::Call => f64::NAN,
         }
     }
@@ -57,61 +72,97 @@ impl Finding {
     /// A call's time in the case's unit.
     fn told(&self, time: f64) -> String {
         match self.unit {
-            Unit::Step(steps) => format!("{:.2} ns/step", time / f64::from(steps)),
-            Unit::Instructions(_) => format!("{:.1} us/call", time / 1_000.0),
-            Unit::Call => format!("{time:.0} ns/call"),
+            Unit::Step(steps) => format!("{:.2}", time / f64::from(steps)),
+            Unit::Instructions(_) => format!("{:.1}", time / 1_000.0),
+            Unit::Call => format!("{time:.0}"),
         }
     }
 
-    fn line(&self) -> String {
-        let (cursor, by_cursor) = match self.cursor[..] {
-            [] => Default::default(),
-            _ => {
-                let time = least_of(&self.cursor);
-                (self.told(time), format!("{:.2}", time / self.ours))
-            }
+    /// A side's mean, and its least and most of all places.
+    fn told_all(&self, times: &Times) -> String {
+        let [mean, least, most] =
+            [times.mean(), times.least(), times.most()].map(|time| self.told(time));
+        format!("{mean} ({least}..{most})")
+    }
+
+    /// Our time at the place at which the library has it, and the ratio there.
+    fn told_shipped(&self) -> String {
+        let told = |place| {
+            let (time, ratio) = (self.told(self.ours.0[place]), self.ratio_at(place));
+            format!("{time} {ratio:.2}")
         };
+        self.shipped.map_or(String::new(), told)
+    }
+
+    fn line(&self) -> String {
+        let yardstick = fastest(&self.c);
         row([
             self.name,
-            &self.told(self.ours),
-            &self.told(least_of(&self.c)),
+            match self.unit {
+                Unit::Step(_) => "ns/step",
+                Unit::Instructions(_) => "us/call",
+                Unit::Call => "ns/call",
+            },
+            &self.told_all(&self.ours),
+            &self.told_all(&self.c[yardstick]),
+            peer::BUILDS[yardstick].name,
             &format!("{:.2}", self.ratio()),
-            &cursor,
-            &by_cursor,
+            &self.told_shipped(),
             &self.rounds.to_string(),
         ])
     }
+
+    /// The ratio by each build, and by C's fastest verifier with a cursor.
+    fn line_by_build(&self) -> String {
+        let cursor = self.cursor.get(fastest(&self.cursor));
+        let ratios = self.c.iter().chain(cursor);
+        let told = ratios.map(|times| format!("{:.2}", self.ratio_to(times)));
+        row_by_build(self.name, told)
+    }
 }
 
-fn least_of(times: &[f64]) -> f64 {
-    times.iter().copied().fold(f64::INFINITY, f64::min)
+/// Which of some builds is the fastest.
+fn fastest(builds: &[Times]) -> usize {
+    let mean = |&build: &usize| builds[build].mean();
+    let order = |a: &usize, b: &usize| mean(a).total_cmp(&mean(b));
+    (0..builds.len()).min_by(order).unwrap_or(0)
 }
 
-fn row([name, ours, c, ratio, cursor, by_cursor, rounds]: [&str; 7]) -> String {
-    let line = format!("{name:16}{ours:>15}{c:>15}{ratio:>7}{cursor:>18}{by_cursor:>8}{rounds:>8}");
-    line + "\n"
+fn row([name, unit, ours, c, yardstick, ratio, shipped, rounds]: [&str; 8]) -> String {
+    let sides = format!("{name:16}{unit:8}{ours:>22}{c:>24}  {yardstick:10}");
+    format!("{sides}{ratio:>6}{shipped:>12}{rounds:>8}\n")
 }
 
-/// A line for each case. C has two verifiers: beside the one with a bitmap, which
-/// the targets speak of, one with a cursor.
+/// A line for each case: the fastest build of the C is the yardstick.
 pub fn table(findings: &[Finding]) -> String {
-    let head = ["case", "ours", "C", "ratio", "C, cursor", "ratio", "rounds"];
+    let spread = "(least..most)";
+    let [ours, c] = ["ours", "C"].map(|side| format!("{side} {spread}"));
+    let shipped = "as shipped";
+    let head = [
+        "case",
+        "unit",
+        &ours,
+        &c,
+        "yardstick",
+        "ratio",
+        shipped,
+        "rounds",
+    ];
     row(head) + &findings.iter().map(Finding::line).collect::<String>()
 }
 
-/// The ratio by each build of the C, a line for each case.
+fn row_by_build(name: &str, cells: impl Iterator<Item = String>) -> String {
+    let cells: String = cells.map(|cell| format!("{cell:>11}")).collect();
+    format!("{name:16}{cells}\n")
+}
+
+/// The ratio by each build of the C, a line for each case. C has two verifiers: beside
+/// the one with a bitmap, which the targets speak of, one with a cursor.
 pub fn by_build(findings: &[Finding]) -> String {
-    let head = |build: &peer::Build| format!("{:>11}", build.name);
-    let ratios = |finding: &Finding| -> String {
-        let ratio = |time: &f64| format!("{:>11.2}", time / finding.ours);
-        finding.c.iter().map(ratio).collect()
-    };
-    let mut text = format!("{:16}", "ratio to C by");
-    text.extend(peer::BUILDS.iter().map(head));
-    for finding in findings {
-        text += &format!("\n{:16}{}", finding.name, ratios(finding));
-    }
-    text + "\n"
+    let builds = peer::BUILDS.iter().map(|build| build.name);
+    let head = builds.chain(["a cursor"]).map(String::from);
+    let lines = findings.iter().map(Finding::line_by_build);
+    row_by_build("ratio to C by", head) + &lines.collect::<String>()
 }
 
 /// The targets of which something was measured, and whether they are met.
@@ -119,9 +170,14 @@ pub fn targets(findings: &[Finding]) -> String {
     let runs: Vec<&Finding> = findings.iter().filter(|f| f.is_run()).collect();
     let verifies: Vec<&Finding> = findings.iter().filter(|f| f.is_verify()).collect();
     let mut text = String::new();
-    text += &least("run at least as fast as C", 1.0, &runs);
-    text += &least("run 1.3 times as fast as C (aim)", 1.3, &runs);
-    text += &least("verify at least as fast as C with a bitmap", 1.0, &verifies);
+    let mean = |finding: &Finding| Some(finding.ratio());
+    text += &least("run at least as fast as C", 1.0, &runs, mean);
+    text += &least("run 1.3 times as fast as C (aim)", 1.3, &runs, mean);
+    let as_shipped = "run as shipped 1.3 times as fast as C where C is fastest (aim)";
+    text += &least(as_shipped, 1.3, &runs, Finding::ratio_shipped);
+    text += &place(&runs);
+    let verify = "verify at least as fast as C with a bitmap";
+    text += &least(verify, 1.0, &verifies, mean);
     let named = |name| verifies.iter().find(|f| f.name == name);
     for name in ["verify-hostile", "verify-branches"] {
         if let (Some(hostile), Some(straight)) = (named(name), named("verify-straight")) {
@@ -131,13 +187,16 @@ pub fn targets(findings: &[Finding]) -> String {
     text
 }
 
-/// Whether the least ratio of some cases reaches a bound; nothing where there are
-/// none.
-fn least(target: &str, bound: f64, findings: &[&Finding]) -> String {
-    let order = |a: &&&Finding, b: &&&Finding| a.ratio().total_cmp(&b.ratio());
-    match findings.iter().min_by(order) {
-        Some(finding) => {
-            let (ratio, name) = (finding.ratio(), finding.name);
+/// Whether the least ratio of some cases reaches a bound; nothing where there is none.
+fn least(
+    target: &str,
+    bound: f64,
+    findings: &[&Finding],
+    ratio: impl Fn(&Finding) -> Option<f64>,
+) -> String {
+    let ratios = findings.iter().filter_map(|f| Some((ratio(f)?, f.name)));
+    match ratios.min_by(|a, b| a.0.total_cmp(&b.0)) {
+        Some((ratio, name)) => {
             let met = met(ratio >= bound);
             format!("{target}: {met} (least {ratio:.2}, {name})\n")
         }
@@ -145,10 +204,25 @@ fn least(target: &str, bound: f64, findings: &[&Finding]) -> String {
     }
 }
 
+/// Where the library has the run, and where it would be the fastest here: at the place
+/// whose least ratio is the largest. Nothing where that was not measured.
+fn place(runs: &[&Finding]) -> String {
+    let shipped = match runs.iter().find_map(|finding| finding.shipped) {
+        Some(place) => place,
+        None => return String::new(),
+    };
+    let ratios = |place: usize| runs.iter().map(move |finding| finding.ratio_at(place));
+    let least = |place: usize| ratios(place).fold(f64::INFINITY, f64::min);
+    let order = |&a: &usize, &b: &usize| least(a).total_cmp(&least(b));
+    let fastest = (0..peer::PLACES).max_by(order).unwrap_or(shipped);
+    let [shipped, fastest] = [shipped, fastest].map(|place| place * peer::APART);
+    format!("khx_run is shipped {shipped} bytes past a multiple of 64; of the four places the fastest here is {fastest}\n")
+}
+
 /// How much more of our time a hostile program takes than a straight one of the same
 /// length.
 fn growth(hostile: &Finding, straight: &Finding) -> String {
-    let call = hostile.ours / straight.ours;
+    let call = hostile.ours.mean() / straight.ours.mean();
     let instruction = hostile.instruction() / straight.instruction();
     let (name, met) = (hostile.name, met(call <= 3.0));
     format!("{name} at most 3 times verify-straight, both of 16 KB: {met} (a call {call:.2}, an instruction examined {instruction:.2})\n")
@@ -166,12 +240,18 @@ fn met(good: bool) -> &'static str {
 mod tests {
     use super::*;
 
+    /// Times whose mean is the one given.
+    fn times(mean: f64) -> Times {
+        Times([0.5 * mean, 1.5 * mean, 0.75 * mean, 1.25 * mean])
+    }
+
     fn run(name: &'static str, ours: f64, c: f64) -> Finding {
         Finding {
             name,
             unit: Unit::Step(10),
-            ours,
-            c: vec![c, c + 1.0],
+            ours: times(ours),
+            shipped: None,
+            c: vec![times(c), times(c + 1.0)],
             cursor: Vec::new(),
             rounds: 5,
         }
@@ -180,9 +260,15 @@ mod tests {
     fn verify(name: &'static str, instructions: u32, ours: f64, c: f64) -> Finding {
         Finding {
             unit: Unit::Instructions(instructions),
-            cursor: vec![4.0 * ours, 3.0 * ours],
+            cursor: vec![times(4.0 * ours), times(3.0 * ours)],
             ..run(name, ours, c)
         }
+    }
+
+    /// The words of a table's second line.
+    fn words(table: &str) -> String {
+        let line = table.lines().nth(1).unwrap();
+        line.split_whitespace().collect::<Vec<&str>>().join(" ")
     }
 
     #[test]
@@ -195,14 +281,50 @@ mod tests {
         );
     }
 
+    /// Our times are half the mean at the first place, and three quarters at the third.
     #[test]
-    fn the_fastest_build_is_the_yardstick() {
+    fn a_run_as_it_is_shipped() {
+        let findings = [Finding {
+            shipped: Some(2),
+            ..run("counting", 10.0, 22.0)
+        }];
+        let line = "counting ns/step 1.00 (0.50..1.50) 2.20 (1.10..3.30) gcc -O2 2.20 0.75 1.47 5";
+        assert_eq!(words(&table(&findings)), line);
+        assert_eq!(
+            targets(&findings),
+            "run at least as fast as C: met (least 2.20, counting)\n\
+             run 1.3 times as fast as C (aim): met (least 2.20, counting)\n\
+             run as shipped 1.3 times as fast as C where C is fastest (aim): met \
+             (least 1.47, counting)\n\
+             khx_run is shipped 32 bytes past a multiple of 64; of the four places the \
+             fastest here is 0\n"
+        );
+    }
+
+    #[test]
+    fn a_case_told_by_the_call_has_no_target() {
+        let short = Finding {
+            unit: Unit::Call,
+            ..run("short", 10.0, 5.0)
+        };
+        assert_eq!(targets(&[short]), "");
+    }
+
+    #[test]
+    fn the_build_with_the_least_mean_is_the_yardstick() {
         let mut slow_first = run("counting", 10.0, 20.0);
-        slow_first.c = vec![30.0, 15.0, 40.0];
+        slow_first.c = vec![Times([1.0, 39.0, 39.0, 41.0]), times(15.0), times(40.0)];
         assert_eq!(slow_first.ratio(), 1.5);
-        let text = by_build(&[slow_first]);
-        let line: Vec<&str> = text.lines().nth(1).unwrap().split_whitespace().collect();
-        assert_eq!(line, ["counting", "3.00", "1.50", "4.00"]);
+        let findings = [slow_first];
+        let line = "counting ns/step 1.00 (0.50..1.50) 1.50 (0.75..2.25) gcc -O3 1.50 5";
+        assert_eq!(words(&table(&findings)), line);
+        assert_eq!(words(&by_build(&findings)), "counting 3.00 1.50 4.00");
+    }
+
+    #[test]
+    fn the_faster_cursor_stands_behind_the_builds() {
+        let text = by_build(&[verify("verify-random", 9, 2_000.0, 5_000.0)]);
+        assert_eq!(words(&text), "verify-random 2.50 2.50 3.00");
     }
 
     #[test]
@@ -228,11 +350,14 @@ mod tests {
 
     #[test]
     fn times_in_the_unit_of_the_case() {
-        let line = table(&[verify("verify-random", 9, 2_000.0, 5_000.0)]);
-        let words: Vec<&str> = line.lines().nth(1).unwrap().split_whitespace().collect();
-        let all = "verify-random 2.0 us/call 5.0 us/call 2.50 6.0 us/call 3.00 5";
-        assert_eq!(words.join(" "), all);
-        let line = table(&[run("counting", 20.0, 30.0)]);
-        assert!(line.contains("2.00 ns/step"), "{line}");
+        let verify = verify("verify-random", 9, 2_000.0, 5_000.0);
+        let line = "verify-random us/call 2.0 (1.0..3.0) 5.0 (2.5..7.5) gcc -O2 2.50 5";
+        assert_eq!(words(&table(&[verify])), line);
+        let call = Finding {
+            unit: Unit::Call,
+            ..run("pack-check", 20.0, 30.0)
+        };
+        let line = "pack-check ns/call 20 (10..30) 30 (15..45) gcc -O2 1.50 5";
+        assert_eq!(words(&table(&[call])), line);
     }
 }

@@ -10,23 +10,35 @@ use Rattle.dispatch.proofs.First.{up}
 use Rattle.dispatch.proofs.plain.plain.Statement.{statement}
 use Rattle.dispatch.proofs.plain.plain.Tie as tie
 
-add-next : tie.Need-add-next
-add-next c = search needs
-
 halt-requires : tie.Need-halt-requires
 halt-requires c κs = search needs
+
+add-discard : tie.Need-add-discard
+add-discard c = search needs
 
 discard-requires : tie.Need-discard-requires
 discard-requires c κs = search needs
 
+add-copy-data : tie.Need-add-copy-data
+add-copy-data c = search needs
+
 copy-data-requires : tie.Need-copy-data-requires
 copy-data-requires c κs = search needs
+
+add-copy-program : tie.Need-add-copy-program
+add-copy-program c = search needs
 
 copy-program-requires : tie.Need-copy-program-requires
 copy-program-requires c κs = search needs
 
+add-swap : tie.Need-add-swap
+add-swap c = search needs
+
 swap-requires : tie.Need-swap-requires
 swap-requires c κs = search needs
+
+add-call-taken : tie.Need-add-call-taken
+add-call-taken c = search needs
 
 call-taken-requires : tie.Need-call-taken-requires
 call-taken-requires c κs = search needs
@@ -34,8 +46,14 @@ call-taken-requires c κs = search needs
 jump-taken-requires : tie.Need-jump-taken-requires
 jump-taken-requires c κs = search needs
 
+add-branch-taken : tie.Need-add-branch-taken
+add-branch-taken c = search needs
+
 branch-taken-requires : tie.Need-branch-taken-requires
 branch-taken-requires c κs = search needs
+
+add-branch-taken-2 : tie.Need-add-branch-taken-2
+add-branch-taken-2 c = search needs
 
 branch-taken-requires-2 : tie.Need-branch-taken-requires-2
 branch-taken-requires-2 c κs = search needs
@@ -46,80 +64,158 @@ system-taken-requires c κs = search needs
 extension-taken-requires : tie.Need-extension-taken-requires
 extension-taken-requires c κs = search needs
 
+add-two : tie.Need-add-two
+add-two c = search needs
+
 two-requires : tie.Need-two-requires
 two-requires c κs = search needs
+
+add-two-2 : tie.Need-add-two-2
+add-two-2 c = search needs
 
 two-requires-2 : tie.Need-two-requires-2
 two-requires-2 c κs = search needs
 
+add-two-3 : tie.Need-add-two-3
+add-two-3 c = search needs
+
 two-requires-3 : tie.Need-two-requires-3
 two-requires-3 c κs = search needs
+
+add-two-4 : tie.Need-add-two-4
+add-two-4 c = search needs
 
 two-requires-4 : tie.Need-two-requires-4
 two-requires-4 c κs = search needs
 
+add-two-5 : tie.Need-add-two-5
+add-two-5 c = search needs
+
 two-requires-5 : tie.Need-two-requires-5
 two-requires-5 c κs = search needs
+
+add-two-6 : tie.Need-add-two-6
+add-two-6 c = search needs
 
 two-requires-6 : tie.Need-two-requires-6
 two-requires-6 c κs = search needs
 
+add-two-7 : tie.Need-add-two-7
+add-two-7 c = search needs
+
 two-requires-7 : tie.Need-two-requires-7
 two-requires-7 c κs = search needs
+
+add-two-8 : tie.Need-add-two-8
+add-two-8 c = search needs
 
 two-requires-8 : tie.Need-two-requires-8
 two-requires-8 c κs = search needs
 
+add-two-9 : tie.Need-add-two-9
+add-two-9 c = search needs
+
 two-requires-9 : tie.Need-two-requires-9
 two-requires-9 c κs = search needs
+
+add-two-10 : tie.Need-add-two-10
+add-two-10 c = search needs
 
 two-requires-10 : tie.Need-two-requires-10
 two-requires-10 c κs = search needs
 
+add-two-11 : tie.Need-add-two-11
+add-two-11 c = search needs
+
 two-requires-11 : tie.Need-two-requires-11
 two-requires-11 c κs = search needs
+
+add-two-12 : tie.Need-add-two-12
+add-two-12 c = search needs
 
 two-requires-12 : tie.Need-two-requires-12
 two-requires-12 c κs = search needs
 
+add-two-13 : tie.Need-add-two-13
+add-two-13 c = search needs
+
 two-requires-13 : tie.Need-two-requires-13
 two-requires-13 c κs = search needs
+
+add-two-14 : tie.Need-add-two-14
+add-two-14 c = search needs
 
 two-requires-14 : tie.Need-two-requires-14
 two-requires-14 c κs = search needs
 
+add-one : tie.Need-add-one
+add-one c = search needs
+
 one-requires : tie.Need-one-requires
 one-requires c κs = search needs
+
+add-one-2 : tie.Need-add-one-2
+add-one-2 c = search needs
 
 one-requires-2 : tie.Need-one-requires-2
 one-requires-2 c κs = search needs
 
+add-one-3 : tie.Need-add-one-3
+add-one-3 c = search needs
+
 one-requires-3 : tie.Need-one-requires-3
 one-requires-3 c κs = search needs
+
+add-one-4 : tie.Need-add-one-4
+add-one-4 c = search needs
 
 one-requires-4 : tie.Need-one-requires-4
 one-requires-4 c κs = search needs
 
+add-load-offset : tie.Need-add-load-offset
+add-load-offset c = search needs
+
 load-offset-requires : tie.Need-load-offset-requires
 load-offset-requires c κs = search needs
+
+add-load-offset-2 : tie.Need-add-load-offset-2
+add-load-offset-2 c = search needs
 
 load-offset-requires-2 : tie.Need-load-offset-requires-2
 load-offset-requires-2 c κs = search needs
 
+add-load-sum : tie.Need-add-load-sum
+add-load-sum c = search needs
+
 load-sum-requires : tie.Need-load-sum-requires
 load-sum-requires c κs = search needs
+
+add-load-sum-2 : tie.Need-add-load-sum-2
+add-load-sum-2 c = search needs
 
 load-sum-requires-2 : tie.Need-load-sum-requires-2
 load-sum-requires-2 c κs = search needs
 
+add-store-offset : tie.Need-add-store-offset
+add-store-offset c = search needs
+
 store-offset-requires : tie.Need-store-offset-requires
 store-offset-requires c κs = search needs
+
+add-store-offset-2 : tie.Need-add-store-offset-2
+add-store-offset-2 c = search needs
 
 store-offset-requires-2 : tie.Need-store-offset-requires-2
 store-offset-requires-2 c κs = search needs
 
+add-store-sum : tie.Need-add-store-sum
+add-store-sum c = search needs
+
 store-sum-requires : tie.Need-store-sum-requires
 store-sum-requires c κs = search needs
+
+add-store-sum-2 : tie.Need-add-store-sum-2
+add-store-sum-2 c = search needs
 
 store-sum-requires-2 : tie.Need-store-sum-requires-2
 store-sum-requires-2 c κs = search needs
@@ -420,43 +516,75 @@ pub plain-spec : {M : Type 1} → statement M
 plain-spec =
     tie.close
     (tie.spec
-    add-next
     halt-requires
+    add-discard
     discard-requires
+    add-copy-data
     copy-data-requires
+    add-copy-program
     copy-program-requires
+    add-swap
     swap-requires
+    add-call-taken
     call-taken-requires
     jump-taken-requires
+    add-branch-taken
     branch-taken-requires
+    add-branch-taken-2
     branch-taken-requires-2
     system-taken-requires
     extension-taken-requires
+    add-two
     two-requires
+    add-two-2
     two-requires-2
+    add-two-3
     two-requires-3
+    add-two-4
     two-requires-4
+    add-two-5
     two-requires-5
+    add-two-6
     two-requires-6
+    add-two-7
     two-requires-7
+    add-two-8
     two-requires-8
+    add-two-9
     two-requires-9
+    add-two-10
     two-requires-10
+    add-two-11
     two-requires-11
+    add-two-12
     two-requires-12
+    add-two-13
     two-requires-13
+    add-two-14
     two-requires-14
+    add-one
     one-requires
+    add-one-2
     one-requires-2
+    add-one-3
     one-requires-3
+    add-one-4
     one-requires-4
+    add-load-offset
     load-offset-requires
+    add-load-offset-2
     load-offset-requires-2
+    add-load-sum
     load-sum-requires
+    add-load-sum-2
     load-sum-requires-2
+    add-store-offset
     store-offset-requires
+    add-store-offset-2
     store-offset-requires-2
+    add-store-sum
     store-sum-requires
+    add-store-sum-2
     store-sum-requires-2
     bytes-requires
     returns

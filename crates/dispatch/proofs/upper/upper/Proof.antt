@@ -33,8 +33,8 @@ returns-2 c =
     c .before .before .push .ensures (now (a .program)) (now (a .«data»))
     ∙ sym (first-short (now (a .program)) (a .address) (a .depth) (now (a .«data»)) (now (a .cells)) (a .first) (c .before .before .before .before .before .if1 .left) (c .before .before .before .before .if2 .taken))
 
-push-values-requires : tie.Need-push-values-requires
-push-values-requires c κs =
+push-by-first-requires : tie.Need-push-by-first-requires
+push-by-first-requires c κs =
     let q = c .before .before .before .before .before .before .pre in
     (record { size = q .placed .size; inside = q .placed .inside; byte = q .byte }, c .before .if2 .left, q .placed .deep)
 
@@ -46,7 +46,7 @@ returns-3 c =
     let a = c .before .before .before .before .before .before .before .before .before .args in
     let q = c .before .before .before .before .before .before .before .before .before .pre in
     let k = now (a .program) in
-    c .before .before .push-values .ensures (now (a .«data»))
+    c .before .before .push-by-first .ensures (now (a .«data»))
     ∙ act-first k (a .address) (a .depth) (now (a .«data»)) (now (a .cells)) (q .placed .size) (q .placed .inside) (λ i. omega (arith, c .before .before .before .before .before .before .before .before .shared-slice-known .given i))
     ∙ ap (λ (b : ℕ). firstOf k (a .address) (a .depth) (now (a .«data»)) (now (a .cells)) b) (q .byte)
 
@@ -60,6 +60,6 @@ upper-spec =
     push-requires
     same-length
     returns-2
-    push-values-requires
+    push-by-first-requires
     same-length-2
     returns-3)

@@ -25,6 +25,9 @@ returns-4 c = simp (le-ltb _ _ (c .before .before .before .if1 .left), le-ltb _ 
 went-requires : tie.Need-went-requires
 went-requires c κs = search needs
 
+sub-t15 : tie.Need-sub-t15
+sub-t15 c = c .before .before .before .before .before .before .went .ensures .1
+
 same-length : tie.Need-same-length
 same-length c = search needs
 
@@ -33,7 +36,7 @@ same-length-2 c = search needs
 
 returns-5 : tie.Need-returns-5
 unfolding outcomeOf
-returns-5 c = simp (le-ltb _ _ (c .before .before .before .before .before .before .before .before .before .before .if1 .left), le-ltb _ _ (c .before .before .before .before .before .before .before .before .before .if2 .left), le-ltb _ _ (c .before .before .before .before .before .before .before .before .if3 .left), le-ltb _ _ (c .before .before .before .before .before .before .before .if4 .left)) (c .before .before .before .before .went .ensures)
+returns-5 c = simp (le-ltb _ _ (c .before .before .before .before .before .before .before .before .before .before .before .before .if1 .left), le-ltb _ _ (c .before .before .before .before .before .before .before .before .before .before .before .if2 .left), le-ltb _ _ (c .before .before .before .before .before .before .before .before .before .before .if3 .left), le-ltb _ _ (c .before .before .before .before .before .before .before .before .before .if4 .left)) (c .before .before .before .before .before .before .went .ensures .0)
 
 pub run-spec : {M : Type 1} → statement M
 run-spec =
@@ -44,6 +47,7 @@ run-spec =
     returns-3
     returns-4
     went-requires
+    sub-t15
     same-length
     same-length-2
     returns-5)

@@ -1,0 +1,2 @@
+-- The laws of `values`.
+mod Arms

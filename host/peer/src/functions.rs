@@ -1,0 +1,206 @@
+//! The functions that are timed, at each of their places, behind functions over slices.
+//! All unsafe code of this crate is written here. Both sides take the same arguments; how they
+//! write their numbers and states is their [`Form`].
+
+use crate::PLACES;
+
+/// The status of a machine that has halted, as C numbers it; 0 is one that runs, and any
+/// other number is a fault.
+pub const HALTED: u32 = 100;
+
+/// How a side writes what it is given and what it gives.
+pub trait Form {
+    type Number: Copy;
+    /// All 0 where a program begins.
+    type State: Copy + Default;
+
+    fn number(number: Self::Number) -> u32;
+
+    /// A state's address, depth and status, the status as C numbers it.
+    fn state(state: Self::State) -> [u32; 3];
+}
+
+/// The proved library's: include/khalixoshi.h.
+pub enum Proved {}
+
+#[repr(C)]
+#[derive(Clone, Copy, Default)]
+pub struct ProvedState {
+    address: usize,
+    depth: usize,
+    status: usize,
+    fault: usize,
+}
+
+impl Form for Proved {
+    type Number = usize;
+    type State = ProvedState;
+
+    fn number(number: usize) -> u32 {
+        number as u32
+    }
+
+    fn state(state: ProvedState) -> [u32; 3] {
+        let status = match state.status {
+            0 => 0,
+            1 => HALTED,
+            _ => state.fault as u32,
+        };
+        [state.address as u32, state.depth as u32, status]
+    }
+}
+
+/// The plain C's: c/peer.h.
+pub enum Plain {}
+
+#[repr(C)]
+#[derive(Clone, Copy, Default)]
+pub struct PlainState {
+    address: u32,
+    depth: u32,
+    status: u32,
+}
+
+impl Form for Plain {
+    type Number = u32;
+    type State = PlainState;
+
+    fn number(number: u32) -> u32 {
+        number
+    }
+
+    fn state(state: PlainState) -> [u32; 3] {
+        [state.address, state.depth, state.status]
+    }
+}
+
+/// What a run came to.
+#[repr(C)]
+pub struct Ran<F: Form> {
+    refusal: F::Number,
+    steps: u32,
+    state: F::State,
+}
+
+/// What a verifier or a pack check says: a refusal, and an address or a count.
+#[repr(C)]
+pub struct Said<F: Form> {
+    refusal: F::Number,
+    number: F::Number,
+}
+
+impl<F: Form> Said<F> {
+    fn numbers(&self) -> [u32; 2] {
+        [F::number(self.refusal), F::number(self.number)]
+    }
+}
+
+/// From a state, over program, data and cells, at most so many steps.
+pub type Run<F> = unsafe extern "C" fn(
+    <F as Form>::State,
+    *const u8,
+    usize,
+    *mut u8,
+    usize,
+    *mut u16,
+    usize,
+    u32,
+) -> Ran<F>;
+/// The depth map of a program for so many cells.
+pub type Verify<F> = unsafe extern "C" fn(*const u8, usize, usize, *mut u16, usize) -> Said<F>;
+/// The same, with a byte for each byte of the program.
+pub type VerifyByCursor =
+    unsafe extern "C" fn(*const u8, usize, usize, *mut u16, usize, *mut u8) -> Said<Plain>;
+pub type PackCheck<F> = unsafe extern "C" fn(*const u8, usize) -> Said<F>;
+
+/// One function at each of its places.
+pub type Copies<Function> = [Function; PLACES];
+
+/// The copies of a function by their names.
+macro_rules! copies {
+    ($function:ty, [$($name:ident)*]) => {{
+        extern "C" {
+            $(fn $name();)*
+        }
+        // SAFETY: the type is what the header of the function's side declares.
+        [$(unsafe { std::mem::transmute::<unsafe extern "C" fn(), $function>($name) }),*]
+    }};
+}
+pub(crate) use copies;
+
+/// What both sides have.
+pub struct Functions<F: Form> {
+    pub(crate) run: Copies<Run<F>>,
+    pub(crate) verify: Copies<Verify<F>>,
+    pub(crate) pack_check: Copies<PackCheck<F>>,
+}
+
+/// A side, whatever its form.
+pub trait Measured {
+    /// Runs a program from the fresh state, as many steps as can be counted: the
+    /// refusal, the steps, the address, the depth and the status.
+    fn run(&self, place: usize, program: &[u8], data: &mut [u8], cells: &mut [u16]) -> [u32; 5];
+
+    /// The depth map, by C with a bitmap of the addresses still due: the refusal, and
+    /// where.
+    fn verify(&self, place: usize, program: &[u8], cells: usize, map: &mut [u16]) -> [u32; 2];
+
+    /// Checks a whole pack: the refusal, and the count of entries.
+    fn pack_check(&self, place: usize, pack: &[u8]) -> [u32; 2];
+}
+
+impl<F: Form> Measured for Functions<F> {
+    fn run(&self, place: usize, program: &[u8], data: &mut [u8], cells: &mut [u16]) -> [u32; 5] {
+        // SAFETY: each pointer is a slice's own, with its length.
+        let ran = unsafe {
+            (self.run[place])(
+                F::State::default(),
+                program.as_ptr(),
+                program.len(),
+                data.as_mut_ptr(),
+                data.len(),
+                cells.as_mut_ptr(),
+                cells.len(),
+                u32::MAX,
+            )
+        };
+        let [address, depth, status] = F::state(ran.state);
+        [F::number(ran.refusal), ran.steps, address, depth, status]
+    }
+
+    fn verify(&self, place: usize, program: &[u8], cells: usize, map: &mut [u16]) -> [u32; 2] {
+        let (length, map_length) = (program.len(), map.len());
+        let (program, map) = (program.as_ptr(), map.as_mut_ptr());
+        // SAFETY: each pointer is a slice's own, with its length.
+        let said = unsafe { (self.verify[place])(program, length, cells, map, map_length) };
+        said.numbers()
+    }
+
+    fn pack_check(&self, place: usize, pack: &[u8]) -> [u32; 2] {
+        // SAFETY: the pointer is the slice's own, with its length.
+        let said = unsafe { (self.pack_check[place])(pack.as_ptr(), pack.len()) };
+        said.numbers()
+    }
+}
+
+/// The verifier with a cursor, which C alone has.
+pub struct Cursor(pub(crate) Copies<VerifyByCursor>);
+
+impl Cursor {
+    /// The depth map; `done` has as many bytes as the program.
+    pub fn verify(
+        &self,
+        place: usize,
+        program: &[u8],
+        cells: usize,
+        map: &mut [u16],
+        done: &mut [u8],
+    ) -> [u32; 2] {
+        assert_eq!(done.len(), program.len());
+        let (length, map_length) = (program.len(), map.len());
+        let (program, map, done) = (program.as_ptr(), map.as_mut_ptr(), done.as_mut_ptr());
+        // SAFETY: each pointer is a slice's own, with its length; `done` has the program's.
+        let said = unsafe { (self.0[place])(program, length, cells, map, map_length, done) };
+        said.numbers()
+    }
+}
