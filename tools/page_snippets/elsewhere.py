@@ -20,7 +20,8 @@ KNOWN = [
     Known(r"make c-example", "it is a step of the gate", [(".ci/run", r"outside .* make --silent c-example")]),
     Known(r"make soak N=[0-9]+ SEED=([0-9]+)", "it takes hours: fewer cases are asked", [("Makefile", r"soak: host")],
           rf"make --silent -o {LIBRARY} soak N=1000 SEED=\1"),
-    Known(r"make fuzz SECONDS=[0-9]+", "it takes so long: the gate replays the seeds", [("Makefile", r"\t@tools/fuzz \$\(SECONDS\)"), (".ci/run", r"outside .* tools/fuzz")]),
+    Known(r"make fuzz SECONDS=[0-9]+", "it takes so long: the gate replays the seeds",
+          [("Makefile", r"\t@tools/fuzz \$\(SECONDS\)"), (".ci/run", r"outside .* tools/fuzz")]),
     Known(r"tools/x86-64 COMMAND", "it is for other processors alone", [("tools/x86-64", r"# usage: x86-64 COMMAND.*")]),
 ]
 

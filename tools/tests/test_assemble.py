@@ -119,6 +119,10 @@ class Programs(Assembling):
             self.gives(text, "81 00")
         self.gives("", "")
 
+    def test_an_include_has_code_too(self):
+        self.write("part.txt", "own = 32\n        jump-imm8-if good\n")
+        self.gives("push-u8 own\ninclude part.txt\nhalt\ngood: halt\n", "A0 3D 04 00 00")
+
     def test_standard_input(self):
         self.write("part.txt", "halt\n")
         self.assertEqual(self.ran("-", input=b"include part.txt\n"), (0, b"\0", ""))

@@ -141,9 +141,11 @@ class Consoles(Pages):
         self.fails(block("console", "$ sleep 100\n"), 2, "sleep 100: not done after 0.2 seconds", seconds=0.2)
 
     def test_any_lines(self):
-        for stated, printed in (("..", ""), ("..", "a b"), ("a ..", "a"), ("a .. b", "a b"), ("a .. b", "a x b x b"), (".. b", "b"), (".. x .. y ..", "a x b y"), ("a .. .. b", "a b")):
+        for stated, printed in (("..", ""), ("..", "a b"), ("a ..", "a"), ("a .. b", "a b"), ("a .. b", "a x b x b"),
+                                (".. b", "b"), (".. x .. y ..", "a x b y"), ("a .. .. b", "a b")):
             self.assertTrue(console.alike(stated.split(), printed.split()), (stated, printed))
-        for stated, printed in (("a ..", "b a"), (".. a", "a b"), ("a .. a", "a"), (".. x .. y ..", "y x"), ("a .. x .. b", "a b x"), ("", "a"), ("a", ""), ("...", "a")):
+        for stated, printed in (("a ..", "b a"), (".. a", "a b"), ("a .. a", "a"), (".. x .. y ..", "y x"),
+                                ("a .. x .. b", "a b x"), ("", "a"), ("a", ""), ("...", "a")):
             self.assertFalse(console.alike(stated.split(), printed.split()), (stated, printed))
 
 
