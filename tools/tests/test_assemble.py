@@ -2,7 +2,6 @@
 import os
 import pathlib
 import pty
-import shutil
 import subprocess
 import tempfile
 import unittest
@@ -292,17 +291,7 @@ class Constants(Assembling):
 
     def test_the_preamble(self):
         names = assembly.names(EXAMPLES / "rules" / "preamble.txt")
-        self.assertEqual((names["length"], names["lent"], names["table"]), (0, 8, 64))
-
-
-@unittest.skipUnless((TOOLS.parent / "host" / "target" / "release" / "khx").exists(), "khx is not built")
-class Listings(Assembling):
-    def test_a_listing_gives_its_program_again(self):
-        shutil.copy(EXAMPLES / "rules" / "cmap.rex", self.folder / "p.rex")
-        self.write("odd.rex", bytes(range(256)) * 3 + b"\xff\x01")
-        for name in ("p.rex", "odd.rex"):
-            listed = subprocess.run([TOOLS.parent / "host" / "target" / "release" / "khx", "list", name], cwd=self.folder, capture_output=True, check=True)
-            self.assertEqual(self.ran("-", input=listed.stdout), (0, (self.folder / name).read_bytes(), ""))
+        self.assertEqual((names["length"], names["lent"], names["table"], names["budget"]), (4, 12, 64, 20_000_000))
 
 
 if __name__ == "__main__":
