@@ -117,6 +117,28 @@ static void alter(size_t count)
         in_hand.bytes[at] = (uint8_t)random_below(256);
 }
 
+/* Every seed in every way: how many choices of rooms emptied that were. */
+static size_t try_seeds(size_t count)
+{
+    size_t emptied = 0;
+    for (size_t i = 0; i < count; i++) {
+        in_hand = seeds[i];
+        try_as_it_says();
+        emptied += try_with_null();
+    }
+    return emptied;
+}
+
+static void try_altered(size_t count, size_t altered)
+{
+    for (size_t i = 0; i < altered; i++) {
+        in_hand = seeds[random_below(count)];
+        for (size_t edits = 1 + random_below(6); edits > 0; edits--)
+            alter(count);
+        try_as_it_says();
+    }
+}
+
 int main(int argc, char **argv)
 {
     size_t count = argc < 3 ? 0 : (size_t)(argc - 2);
@@ -125,23 +147,15 @@ int main(int argc, char **argv)
         fprintf(stderr, "usage: replay COUNT FILE.. (at most %d files)\n", FILES_MAX);
         return 2;
     }
-    size_t emptied = 0;
-    LLVMFuzzerInitialize(&argc, &argv);
-    atexit(leave_broken);
-    for (size_t i = 0; i < count; i++) {
+    for (size_t i = 0; i < count; i++)
         if (!load(&seeds[i], argv[i + 2]))
             return 2;
-        in_hand = seeds[i];
-        try_as_it_says();
-        emptied += try_with_null();
-    }
-    for (size_t i = 0; i < altered; i++) {
-        in_hand = seeds[random_below(count)];
-        for (size_t edits = 1 + random_below(6); edits > 0; edits--)
-            alter(count);
-        try_as_it_says();
-    }
-    printf("%zu seeds, each again with NULL for no bytes and so with its rooms emptied (%zu choices), and %zu altered: no promise broken\n",
+    LLVMFuzzerInitialize(&argc, &argv);
+    atexit(leave_broken);
+    size_t emptied = try_seeds(count);
+    try_altered(count, altered);
+    printf("%zu seeds, each again with NULL for no bytes and so with its rooms emptied (%zu choices), and %zu altered: "
+           "no promise broken\n",
            count, emptied, altered);
     return 0;
 }

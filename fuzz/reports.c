@@ -67,8 +67,8 @@ void try_report(input *from)
     text all = expected(&pack, &other);
     promise_same(&map, &other);
     if (got.refusal == 0)
-        promise(got.length == all.length && same_bytes(room.bytes, all.bytes, all.length),
-                "a report says what the verifier says of each entry");
+        promise(got.length == all.length && all.length <= room.size && same_bytes(room.bytes, all.bytes, all.length),
+                "a report says what the verifier says of each entry, in its room");
     else
         promise(got.refusal == KHX_ROOM && got.length == 0 && room.size < all.length, "25 is for what is longer than the room");
 }
