@@ -30,6 +30,15 @@ static size_t random_below(size_t limit)
     return (size_t)(state >> 11) % limit;
 }
 
+static void tell_way(void)
+{
+    fprintf(stderr, "the input, in the file broken, was lent memory %s", way.null ? "with NULL for no bytes" : "as it says");
+    for (unsigned room = 0; way.emptied >> room != 0; room++)
+        if (way.emptied >> room & 1)
+            fprintf(stderr, ", room %u emptied", room);
+    fprintf(stderr, "\n");
+}
+
 static void leave_broken(void)
 {
     FILE *file = trying ? fopen("broken", "wb") : NULL;
@@ -37,11 +46,7 @@ static void leave_broken(void)
         return;
     fwrite(in_hand.bytes, 1, in_hand.length, file);
     fclose(file);
-    fprintf(stderr, "the input, in the file broken, was lent memory %s", way.null ? "with NULL for no bytes" : "as it says");
-    for (unsigned room = 0; way.emptied >> room != 0; room++)
-        if (way.emptied >> room & 1)
-            fprintf(stderr, ", room %u emptied", room);
-    fprintf(stderr, "\n");
+    tell_way();
 }
 
 static void try(void)
