@@ -5,7 +5,6 @@
 #define _DEFAULT_SOURCE
 #include "face.h"
 
-#include "lent.h"
 #include "promise.h"
 #include "tries.h"
 
@@ -43,12 +42,18 @@ int LLVMFuzzerInitialize(int *count, char ***words)
     return 0;
 }
 
-int LLVMFuzzerTestOneInput(const uint8_t *bytes, size_t length)
+void try_lending(const uint8_t *bytes, size_t length, lending how)
 {
     input from = {bytes, length};
-    lend_anew();
+    lend_anew(how);
     if (sigsetjmp(ground, 0) != 0)
         promise(false, "no memory is touched that was not lent, and no trap is met");
     TRIES[take_byte(&from) % (sizeof TRIES / sizeof TRIES[0])](&from);
+}
+
+int LLVMFuzzerTestOneInput(const uint8_t *bytes, size_t length)
+{
+    const lending as_the_input_says = {false, 0};
+    try_lending(bytes, length, as_the_input_says);
     return 0;
 }

@@ -1,7 +1,7 @@
 /* Numbers, sizes and contents from a fuzzer's input. */
 #include "input.h"
 
-#include <string.h>
+#include "bytes.h"
 
 /* The first byte that stands for some hundreds, the first that stands for a place near the limit, and how near that is. */
 enum { HUNDREDS = 0xE8, EDGES = 0xF8, NEAR = 4 };
@@ -65,7 +65,7 @@ size_t take_room(input *from, size_t enough)
 static void repeat(uint8_t *place, size_t length, size_t period)
 {
     for (size_t done = period; done < length; done *= 2)
-        memcpy(place + done, place, done < length - done ? done : length - done);
+        copy_bytes(place + done, place, done < length - done ? done : length - done);
 }
 
 void take_contents(input *from, uint8_t *place, size_t length)

@@ -1,10 +1,9 @@
 /* Promises of khx_decode, khx_read and khx_encode. */
+#include "bytes.h"
 #include "khalixoshi.h"
 #include "lent.h"
 #include "promise.h"
 #include "tries.h"
-
-#include <string.h>
 
 static bool same(khx_instruction one, khx_instruction other)
 {
@@ -27,7 +26,7 @@ static void promise_encodes_back(khx_decoded got, const uint8_t *code)
 {
     uint8_t back[KHX_INSTRUCTION_MAX];
     khx_written written = khx_encode(got.instruction, back, sizeof back);
-    promise(written.refusal == 0 && written.length == got.length && memcmp(back, code, got.length) == 0,
+    promise(written.refusal == 0 && written.length == got.length && same_bytes(back, code, got.length),
             "what decodes encodes back to the same bytes");
 }
 
@@ -45,7 +44,7 @@ static void promise_decoded(khx_decoded got, const lent *program, size_t at)
     }
     promise(got.length > 0 && got.length <= KHX_INSTRUCTION_MAX && got.length <= program->size - at,
             "an instruction has one to nine bytes, all in the program");
-    promise_encodes_back(got, program->bytes + at);
+    promise_encodes_back(got, place_in(program, at));
 }
 
 void try_decode(input *from)
@@ -65,7 +64,7 @@ void try_read(input *from)
     size_t at = take_number(from);
     lent program = lend(from, take_size(from, KHX_PROGRAM_MAX));
     khx_decoded got = {0, 0, {0, 0, 0, 0, 0, 0, 0, 0}};
-    memcpy(place.bytes, &at, sizeof at);
+    copy_bytes(place.bytes, &at, sizeof at);
     for (size_t turn = 0; turn < 16 && got.refusal == 0; turn++) {
         got = khx_read(program.bytes, program.size, (size_t *)(void *)place.bytes);
         notice(READ, got.refusal);
@@ -74,7 +73,7 @@ void try_read(input *from)
         promise_decoded(got, &program, at);
         promise(same_decoded(got, khx_decode(program.bytes, program.size, at)), "reading answers as decoding does");
         at += got.length;
-        promise(memcmp(place.bytes, &at, sizeof at) == 0, "reading moves past the instruction, a refusal does not move");
+        promise(same_bytes(place.bytes, &at, sizeof at), "reading moves past the instruction, a refusal does not move");
     }
 }
 
@@ -102,7 +101,7 @@ static void promise_decodes_back(khx_instruction one, const lent *room, size_t l
 void try_encode(input *from)
 {
     khx_instruction one = take_instruction(from);
-    lent room = lend_filled(from, take_room(from, KHX_INSTRUCTION_MAX));
+    lent room = as_room(lend_filled(from, take_room(from, KHX_INSTRUCTION_MAX)));
     uint8_t enough[KHX_INSTRUCTION_MAX];
     khx_written got = khx_encode(one, room.bytes, room.size);
     khx_written roomy = khx_encode(one, enough, sizeof enough);

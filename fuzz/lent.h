@@ -16,8 +16,14 @@ typedef struct lent {
     uint8_t *was;       /* a copy, taken when the memory was lent */
 } lent;
 
-/* Nothing is lent any more. */
-void lend_anew(void);
+/* How memory is lent. All 0: as the input says. */
+typedef struct lending {
+    bool null;          /* no bytes are always NULL */
+    unsigned emptied;   /* bit i: room i, the first lent being 0, has no bytes and is NULL */
+} lending;
+
+/* Nothing is lent any more; what will be is lent so. */
+void lend_anew(lending how);
 
 /* So many bytes from the input. */
 lent lend(input *from, size_t size);
@@ -28,8 +34,17 @@ lent lend_filled(input *from, size_t size);
 /* A copy of so many bytes. */
 lent lend_copy(input *from, const void *bytes, size_t size);
 
+/* Lent memory that the library may write to and whose size is free: a room, emptied where the way of lending says so. */
+lent as_room(lent memory);
+
+/* The rooms lent since memory was lent anew. */
+unsigned rooms_lent(void);
+
 /* The bytes that were lent stand there again. */
 void restore(const lent *memory);
+
+/* The place at an offset, which is in the memory or at its end. */
+uint8_t *place_in(const lent *memory, size_t offset);
 
 /* The 16-bit cells of a memory. */
 uint16_t *cells_of(const lent *memory);

@@ -1,10 +1,9 @@
 /* Promises of khx_list: its lines are those of the instructions that khx_read gives, its length is that of the room. */
+#include "bytes.h"
 #include "khalixoshi.h"
 #include "lent.h"
 #include "promise.h"
 #include "tries.h"
-
-#include <string.h>
 
 /* The longest line, and the most characters that a byte can have in it. */
 enum { LINE = 42, EACH = KHX_LIST_MAX / KHX_PROGRAM_MAX };
@@ -15,29 +14,30 @@ static size_t next_address(const lent *program, size_t at)
     return at + (got.refusal == 0 ? got.length : 1);
 }
 
-static bool starts_with(const char *text, size_t address)
+static bool starts_with(const uint8_t *text, size_t address)
 {
     const char *digits = "0123456789ABCDEF";
     return text[0] == digits[address >> 12 & 15] && text[1] == digits[address >> 8 & 15] &&
            text[2] == digits[address >> 4 & 15] && text[3] == digits[address & 15] && text[4] == ' ';
 }
 
-/* The place after the line that stands for an address. */
-static const char *after_line(const char *text, const char *end, size_t address)
+/* The offset after the line that stands for an address. */
+static size_t after_line(const lent *room, size_t start, size_t end, size_t address)
 {
-    promise(end - text > 5 && starts_with(text, address), "a line starts with the address of its instruction");
-    const char *feed = memchr(text, '\n', (size_t)(end - text));
-    promise(feed != NULL && feed - text <= LINE, "a line ends with a line feed");
+    promise(end - start > 5 && starts_with(place_in(room, start), address), "a line starts with the address of its instruction");
+    size_t feed = start;
+    while (feed < end && room->bytes[feed] != '\n')
+        feed++;
+    promise(feed < end && feed - start <= LINE, "a line ends with a line feed");
     return feed + 1;
 }
 
 static void promise_lines(const lent *program, const lent *room, size_t length)
 {
-    const char *text = (const char *)room->bytes;
-    const char *end = length == 0 ? text : text + length;
+    size_t told = 0;
     for (size_t at = 0; at < program->size; at = next_address(program, at))
-        text = after_line(text, end, at);
-    promise(text == end, "a listing has a line for each instruction and no more");
+        told = after_line(room, told, length, at);
+    promise(told == length, "a listing has a line for each instruction and no more");
 }
 
 static void promise_fits_exactly(input *from, const lent *program, const lent *room, size_t length)
@@ -46,7 +46,7 @@ static void promise_fits_exactly(input *from, const lent *program, const lent *r
     khx_written again = khx_list(program->bytes, program->size, exact.bytes, exact.size);
     promise_around(&exact);
     promise(again.refusal == 0 && again.length == length, "a listing needs no more room than its length");
-    promise(length == 0 || memcmp(exact.bytes, room->bytes, length) == 0, "the same listing again");
+    promise(same_bytes(exact.bytes, room->bytes, length), "the same listing again");
 }
 
 static void promise_too_long(input *from, const lent *program, size_t room_length)
@@ -60,7 +60,7 @@ static void promise_too_long(input *from, const lent *program, size_t room_lengt
 void try_list(input *from)
 {
     lent program = lend(from, take_size(from, KHX_PROGRAM_MAX));
-    lent room = lend_filled(from, take_room(from, EACH * program.size));
+    lent room = as_room(lend_filled(from, take_room(from, EACH * program.size)));
     khx_written got = khx_list(program.bytes, program.size, room.bytes, room.size);
     notice(LISTED, got.refusal);
     promise_kept(&program);

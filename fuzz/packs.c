@@ -1,11 +1,10 @@
 /* Promises of khx_pack_check, khx_pack_entry, khx_pack_find and khx_pack_write. */
 #include "packs.h"
 
+#include "bytes.h"
 #include "khalixoshi.h"
 #include "promise.h"
 #include "tries.h"
-
-#include <string.h>
 
 /* What the lists of the harness hold: more entries and longer bodies than a pack may have. */
 enum { ENTRIES_HELD = 96, BODIES_HELD = 1 << 16, HEAD = 2, FIELDS = 8 };
@@ -134,7 +133,7 @@ static void hold_entries(const lent *pack, size_t entries)
     promise(offset == pack->size, "the last body ends at the pack's end");
     held.count = entries;
     held.bodies_length = pack->size - HEAD - FIELDS * entries;
-    memcpy(held.bodies, pack->bytes + HEAD + FIELDS * entries, held.bodies_length);
+    copy_bytes(held.bodies, place_in(pack, HEAD + FIELDS * entries), held.bodies_length);
 }
 
 static void promise_writes_back(input *from, const lent *pack)
@@ -143,7 +142,7 @@ static void promise_writes_back(input *from, const lent *pack)
     khx_written written = write_held(room.bytes, room.size);
     promise_around(&room);
     promise(written.refusal == 0 && written.length == pack->size, "a good pack's entries are written");
-    promise(memcmp(room.bytes, pack->bytes, pack->size) == 0, "writing a good pack's entries gives the same bytes");
+    promise(same_bytes(room.bytes, pack->bytes, pack->size), "writing a good pack's entries gives the same bytes");
 }
 
 void try_pack_check(input *from)
@@ -248,7 +247,7 @@ static void promise_holds(const lent *pack)
         promise(entry.tag == held.tags[i] && entry.cells == held.cells[i] && entry.length == held.lengths[i],
                 "a pack that was written has the numbers of the lists");
     }
-    promise(memcmp(pack->bytes + HEAD + FIELDS * held.count, held.bodies, held.bodies_length) == 0,
+    promise(same_bytes(place_in(pack, HEAD + FIELDS * held.count), held.bodies, held.bodies_length),
             "a pack that was written has the bodies");
 }
 
@@ -263,7 +262,7 @@ void try_pack_write(input *from)
     take_lists(from);
     lent_lists all = lend_lists(from);
     size_t whole = HEAD + FIELDS * held.count + held.bodies_length;
-    lent room = lend_filled(from, take_room(from, whole));
+    lent room = as_room(lend_filled(from, take_room(from, whole)));
     khx_written written = write(&all, &room);
     notice(WRITTEN, written.refusal);
     if (written.refusal != 0) {

@@ -1,4 +1,5 @@
 /* Promises of khx_report: it says of each entry what khx_verify says, and leaves the map as those calls leave it. */
+#include "bytes.h"
 #include "khalixoshi.h"
 #include "lent.h"
 #include "packs.h"
@@ -6,7 +7,6 @@
 #include "tries.h"
 
 #include <stdio.h>
-#include <string.h>
 
 /* Characters of the longest line. */
 enum { LINE = 24 };
@@ -35,7 +35,7 @@ static text expected(const lent *pack, const lent *map)
         all.length = (size_t)snprintf(all.bytes, LINE + 1, "pack refused %zu\n", checked.refusal);
     for (size_t i = 0; i < checked.entries; i++) {
         khx_entry entry = khx_pack_entry(pack->bytes, pack->size, i);
-        khx_verdict verdict = khx_verify(pack->bytes + entry.offset, entry.length, entry.cells, cells_of(map), entry.length);
+        khx_verdict verdict = khx_verify(place_in(pack, entry.offset), entry.length, entry.cells, cells_of(map), entry.length);
         add_verdict(&all, entry.tag, verdict);
     }
     promise(all.length <= KHX_REPORT_MAX, "a report's length is in its limit");
@@ -45,14 +45,14 @@ static text expected(const lent *pack, const lent *map)
 /* Mostly as many cells as the longest program needs, at times a few more or fewer, at times few. */
 static lent lend_map(input *from)
 {
-    return lend_filled(from, 2 * take_room(from, KHX_PROGRAM_MAX));
+    return as_room(lend_filled(from, 2 * take_room(from, KHX_PROGRAM_MAX)));
 }
 
 void try_report(input *from)
 {
     lent pack = take_pack(from);
     lent map = lend_map(from);
-    lent room = lend_filled(from, take_room(from, KHX_REPORT_MAX));
+    lent room = as_room(lend_filled(from, take_room(from, KHX_REPORT_MAX)));
     khx_written got = khx_report(pack.bytes, pack.size, cells_of(&map), map.size / 2, room.bytes, room.size);
     notice(REPORTED, got.refusal);
     promise_kept(&pack);
@@ -67,8 +67,8 @@ void try_report(input *from)
     text all = expected(&pack, &other);
     promise_same(&map, &other);
     if (got.refusal == 0)
-        promise(got.length == all.length && memcmp(room.bytes, all.bytes, all.length) == 0,
-                "a report says what the verifier says of each entry");
+        promise(got.length == all.length && all.length <= room.size && same_bytes(room.bytes, all.bytes, all.length),
+                "a report says what the verifier says of each entry, in its room");
     else
         promise(got.refusal == KHX_ROOM && got.length == 0 && room.size < all.length, "25 is for what is longer than the room");
 }

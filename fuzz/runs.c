@@ -18,8 +18,8 @@ static machine take_machine(input *from)
 {
     machine one;
     one.program = lend(from, take_size(from, KHX_PROGRAM_MAX));
-    one.data = lend(from, take_size(from, KHX_DATA_MAX));
-    one.cells = lend(from, 2 * take_size(from, KHX_CELLS_MAX));
+    one.data = as_room(lend(from, take_size(from, KHX_DATA_MAX)));
+    one.cells = as_room(lend(from, 2 * take_size(from, KHX_CELLS_MAX)));
     return one;
 }
 

@@ -60,7 +60,7 @@ static void promise_safe(khx_ran ran, const lent *program, const uint16_t *map)
 /* Started fresh with as many cells or more, in parts of any length. */
 static void promise_runs(input *from, const lent *program, size_t cells, const lent *map)
 {
-    lent data = lend(from, take_size(from, KHX_DATA_MAX) % (KHX_DATA_MAX + 1));
+    lent data = as_room(lend(from, take_size(from, KHX_DATA_MAX) % (KHX_DATA_MAX + 1)));
     lent stack = lend_filled(from, 2 * cells);
     khx_ran ran = {0, 0, khx_fresh()};
     for (size_t part = 0; part < 8 && ran.state.status == KHX_RUNNING; part++) {
@@ -91,8 +91,8 @@ void try_verify(input *from)
     size_t cells = take_size(from, KHX_CELLS_MAX);
     uint8_t unlike = take_byte(from);
     lent program = lend(from, take_size(from, KHX_PROGRAM_MAX));
-    size_t map_length = unlike < 0xF0 ? program.size : take_size(from, KHX_PROGRAM_MAX);
-    lent map = lend_filled(from, 2 * map_length);
+    lent map = as_room(lend_filled(from, 2 * (unlike < 0xF0 ? program.size : take_size(from, KHX_PROGRAM_MAX))));
+    size_t map_length = map.size / 2;
     khx_verdict verdict = khx_verify(program.bytes, program.size, cells, cells_of(&map), map_length);
     size_t refusal = size_refusal(program.size, cells, map_length);
     notice(VERIFIED, verdict.refusal);
