@@ -9,7 +9,7 @@ use khalixoshi::{Error, PROGRAM_MAX};
 use crate::args::Args;
 use crate::failure::{Failure, Outcome};
 use crate::manifest::{self, Line};
-use crate::{files, terminal};
+use crate::{aside, files, hints, terminal};
 
 pub const HELP: &str = "\
 khx pack: builds a pack from a manifest of its rules.
@@ -37,7 +37,7 @@ pub fn main(mut args: Args, out: &mut dyn Write) -> Result<Outcome, Failure> {
         let message = "pack: a pack is no text for a terminal: name a file with -o";
         return Err(Failure::usage(message));
     }
-    let pack = packed(&manifest)?;
+    let pack = packed(&manifest, target.as_deref())?;
     match target {
         Some(file) => files::write(&file, &pack)?,
         None => out.write_all(&pack)?,
@@ -45,9 +45,13 @@ pub fn main(mut args: Args, out: &mut dyn Write) -> Result<Outcome, Failure> {
     Ok(Outcome::Good)
 }
 
-fn packed(manifest: &OsStr) -> Result<Vec<u8>, Failure> {
-    let lines = manifest::read(manifest)?;
-    let body = |line: &Line| files::read(line.file.as_os_str(), PROGRAM_MAX);
+fn packed(manifest: &OsStr, target: Option<&OsStr>) -> Result<Vec<u8>, Failure> {
+    let exchanged = || hints::for_target(target);
+    let text = manifest::read(manifest).map_err(|failure| failure.hinted(exchanged()))?;
+    let lines = manifest::rules(manifest, &text).map_err(|failure| {
+        let other = || hints::for_manifest((manifest, &text));
+        failure.hinted(exchanged().or_else(other))
+    })?;
     let bodies = lines.iter().map(body).collect::<Result<Vec<_>, _>>()?;
     let rules: Vec<Rule> = lines.iter().zip(&bodies).map(rule).collect();
     build(&rules).map_err(|error| {
@@ -55,6 +59,13 @@ fn packed(manifest: &OsStr) -> Result<Vec<u8>, Failure> {
         let number = lines[refused_by(&rules, error)].number;
         Failure::Refused(format!("{name}:{number}: refused {error}"))
     })
+}
+
+fn body(line: &Line) -> Result<Vec<u8>, Failure> {
+    let file = line.file.as_os_str();
+    let body = files::read(file, PROGRAM_MAX)?;
+    aside::hint(hints::for_program(&files::name(file), (file, &body)));
+    Ok(body)
 }
 
 fn rule<'a>((line, body): (&Line, &'a Vec<u8>)) -> Rule<'a> {
