@@ -198,3 +198,39 @@ fn enough(program: &[u8]) -> String {
         Err(refused) => format!("with 1,024 it is {refused}"),
     }
 }
+
+#[cfg(test)]
+mod tests {
+    use super::*;
+    use khalixoshi::Error;
+    use second::cases::verify::programs;
+
+    /// The walk here comes to the library's refusals, and only to these.
+    #[test]
+    fn as_the_library() {
+        let mut refusals = BTreeSet::new();
+        for (program, cells) in programs() {
+            if program.is_empty() {
+                continue;
+            }
+            let here = walk(&program, cells).map(|stop| (stop.number as usize, Some(stop.at)));
+            let there = depths(&program, cells).err();
+            let there = there.map(|refused| (refused.error.number(), refused.at));
+            assert_eq!(here, there, "{program:02X?}");
+            refusals.extend(there.map(|(number, _)| number));
+        }
+        assert_eq!(refusals, BTreeSet::from([1, 2, 3, 4, 5, 8, 9, 10]));
+    }
+
+    /// Nothing is said of a refusal that the walk does not come to.
+    #[test]
+    fn another_refusal() {
+        let program = [0x81, 0x3C, 0x00];
+        let refused = |error, at| Refused { error, at };
+        let told = |error, at| refusal(&program, 1, refused(error, at)).is_some();
+        assert!(told(Error::TwoDepths, Some(1)));
+        assert!(!told(Error::TwoDepths, Some(0)));
+        assert!(!told(Error::End, Some(1)));
+        assert!(!told(Error::CellsSize, None));
+    }
+}

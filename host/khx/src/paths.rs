@@ -101,3 +101,49 @@ impl<'a> Paths<'a> {
         before.find(|outer| self.meet(*outer) && self.end(*outer) > at)
     }
 }
+
+#[cfg(test)]
+mod tests {
+    use super::*;
+    use khalixoshi::depths;
+    use second::cases::verify::programs;
+
+    /// The address that a line begins with.
+    fn address(line: &str) -> usize {
+        usize::from_str_radix(&line[..4], 16).unwrap()
+    }
+
+    /// Of every accepted program: each address that is met stands there once, with its
+    /// depth, and each byte is told, as part of an instruction or as one that is not met.
+    #[test]
+    fn all_is_told() {
+        let mut accepted = 0;
+        for (program, cells) in programs() {
+            let map = match depths(&program, cells) {
+                Ok(map) => map,
+                Err(_) => continue,
+            };
+            accepted += 1;
+            let mut met = vec![UNMET; program.len()];
+            let mut told = vec![false; program.len()];
+            let listed = listing(&program, &map);
+            for line in listed.lines().filter(|line| !line.ends_with(':')) {
+                let at = address(line);
+                let length = match line.split_once("no path meets: ") {
+                    Some((_, bytes)) => bytes.split(' ').count(),
+                    None => {
+                        let (_, rest) = line.split_once(" depth ").unwrap();
+                        let depth = rest.split(' ').next().unwrap();
+                        assert_eq!(met[at], UNMET, "{listed}");
+                        met[at] = depth.parse().unwrap();
+                        decode(&program, at).unwrap().length
+                    }
+                };
+                told[at..at + length].fill(true);
+            }
+            assert_eq!(met, map, "{listed}");
+            assert!(told.iter().all(|told| *told), "{listed}");
+        }
+        assert!(accepted > 100, "{accepted}");
+    }
+}
