@@ -233,6 +233,12 @@ fn none_where_all_is_well() {
     );
     untold(&["run", &m1, &head]);
     untold(&["run", &m1, &plain]);
+    // A good program may be named as it likes, and two halts are a pack without rules.
+    let odd = file("well/odd.pack", &M1);
+    untold(&["run", &odd, "/dev/null"]);
+    let halts = file("well/halts", &[0x00, 0x00]);
+    untold(&["list", &halts]);
+    untold(&["run", &halts, "/dev/null"]);
     // A program may be refused by the verifier, and run for all that.
     let calls = file("well/calls", &[0x3B, 0x02, 0x00]);
     untold(&["list", &calls]);
