@@ -18,7 +18,7 @@ usage: khx list [--program | --pack] FILE
   --program   FILE is a program
   --pack      FILE is a pack
   --paths     what the paths of the program meet, not all of its bytes in turn
-  --cells N   with --paths, of a program: so many stack cells (0 to 65535; 1024, the most that are taken, without it)
+  --cells N   for the paths of a program: so many stack cells (0 to 65535; 1024, the most taken, without it)
 
 Without --program and --pack, a file whose name ends in .pack is a pack, and any other is a program. Before the
 listing of a rule of a pack stands a line with its tag (in hex), its cells and its length.

@@ -52,20 +52,23 @@ fn packed(manifest: &OsStr, target: Option<&OsStr>) -> Result<Vec<u8>, Failure> 
         let other = || hints::for_manifest((manifest, &text));
         failure.hinted(exchanged().or_else(other))
     })?;
+    let body = |line: &Line| files::read(line.file.as_os_str(), PROGRAM_MAX);
     let bodies = lines.iter().map(body).collect::<Result<Vec<_>, _>>()?;
     let rules: Vec<Rule> = lines.iter().zip(&bodies).map(rule).collect();
-    build(&rules).map_err(|error| {
-        let name = files::name(manifest);
-        let number = lines[refused_by(&rules, error)].number;
-        Failure::Refused(format!("{name}:{number}: refused {error}"))
-    })
+    let mut hints = lines.iter().zip(&bodies).map(hint);
+    let pack = build(&rules).map_err(|error| {
+        let (name, by) = (files::name(manifest), refused_by(&rules, error));
+        let message = format!("{name}:{}: refused {error}", lines[by].number);
+        Failure::Refused(message).hinted(hints.nth(by).flatten())
+    })?;
+    hints.for_each(aside::hint);
+    Ok(pack)
 }
 
-fn body(line: &Line) -> Result<Vec<u8>, Failure> {
+/// Of a rule's file that may be no program.
+fn hint((line, body): (&Line, &Vec<u8>)) -> Option<String> {
     let file = line.file.as_os_str();
-    let body = files::read(file, PROGRAM_MAX)?;
-    aside::hint(hints::for_program(&files::name(file), (file, &body)));
-    Ok(body)
+    hints::for_program(&files::name(file), (file, body))
 }
 
 fn rule<'a>((line, body): (&Line, &'a Vec<u8>)) -> Rule<'a> {

@@ -197,6 +197,12 @@ fn a_rule_that_is_no_program() {
         "{source} looks like a source: tools/assemble {source} -o PROGRAM makes the program"
     );
     assert_eq!(told(&["pack", &manifest], 0), hint);
+    // Too long for a rule: the hint is behind the refusal.
+    file("rule_hints/m1.rex", SOURCE.repeat(500).as_bytes());
+    let told = format!(
+        "rules.txt:2: refused 35: an entry of over 1,024 cells or 16,384 bytes (hint: {hint})"
+    );
+    assert_fails(&khx(&["pack", &manifest]), 1, &told);
 }
 
 #[test]
