@@ -140,6 +140,7 @@ impl fmt::Display for Fault {
 #[cfg(test)]
 mod tests {
     use super::*;
+    use crate::depths;
 
     const GUIDE: &str = include_str!("../../../docs/GUIDE.md");
     const HEADER: &str = include_str!("../../../include/khalixoshi.h");
@@ -159,7 +160,8 @@ mod tests {
         }
     }
 
-    /// The guide has a row for each number, with the same words.
+    /// The guide has a row for each number, with the same words; and one more for 1,
+    /// where the verifier has words of its own.
     #[test]
     fn words_of_the_guide() {
         let (_, table) = GUIDE.split_once("## Numbers that come back").unwrap();
@@ -169,10 +171,12 @@ mod tests {
             Some((number, columns[2], columns[3].trim_end_matches(" |")))
         });
         let told: Vec<(usize, &str, &str)> = rows.collect();
-        let ours: Vec<(usize, &str, &str)> = known()
+        let mut ours: Vec<(usize, &str, &str)> = known()
             .iter()
             .map(|error| (error.number(), error.meaning(), error.advice()))
             .collect();
+        let empty = depths(&[], 0).unwrap_err();
+        ours.insert(1, (1, empty.meaning(), empty.advice()));
         assert_eq!(told, ours);
     }
 

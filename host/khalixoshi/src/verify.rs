@@ -13,6 +13,13 @@ use crate::{c, Error, UNMET};
 /// let refused = depths(&[0x81, 0x3C, 0x00], 1).unwrap_err();
 /// assert_eq!((refused.error, refused.at), (Error::TwoDepths, Some(1)));
 /// assert!(refused.to_string().starts_with("refused 10 at 0001: the address"));
+///
+/// // push 1 twice, and no halt
+/// let refused = depths(&[0x81, 0x81], 2).unwrap_err();
+/// assert_eq!(
+///     refused.to_string(),
+///     "refused 1 at 0001: the instruction leads to the program's end or past it"
+/// );
 /// ```
 #[derive(Clone, Copy, Debug, PartialEq, Eq, Hash)]
 pub struct Refused {
@@ -23,13 +30,36 @@ pub struct Refused {
     pub at: Option<usize>,
 }
 
+impl Refused {
+    /// What it means, in words: those of the error, but for 1, where the address is
+    /// that of the instruction which leads to the end. An empty program has none: it
+    /// is 1 at 0 too.
+    pub fn meaning(self) -> &'static str {
+        match (self.error, self.at) {
+            (Error::End, Some(0)) => {
+                "the instruction leads to the program's end or past it, or the program is empty"
+            }
+            (Error::End, _) => "the instruction leads to the program's end or past it",
+            (error, _) => error.meaning(),
+        }
+    }
+
+    /// What to do about it, in words.
+    pub fn advice(self) -> &'static str {
+        match self.error {
+            Error::End => "end every path with a halt, and jump only to an address in the program",
+            error => error.advice(),
+        }
+    }
+}
+
 impl fmt::Display for Refused {
     fn fmt(&self, f: &mut fmt::Formatter<'_>) -> fmt::Result {
         write!(f, "refused {}", self.error.number())?;
         if let Some(at) = self.at {
             write!(f, " at {at:04X}")?;
         }
-        write!(f, ": {}", self.error.meaning())
+        write!(f, ": {}", self.meaning())
     }
 }
 

@@ -26,6 +26,11 @@ impl Args {
         self.words.len() < before
     }
 
+    /// Whether an option is there, which is not taken yet.
+    pub fn has(&self, name: &str) -> bool {
+        self.words.iter().any(|word| word == name)
+    }
+
     /// The value of an option, the word after it.
     pub fn value(&mut self, name: &str) -> Result<Option<OsString>, Failure> {
         let at = match self.words.iter().position(|word| word == name) {
@@ -37,7 +42,7 @@ impl Args {
             return Err(self.wrong(&format!("{name} needs a value")));
         }
         let value = self.words.remove(at);
-        match self.words.iter().any(|word| word == name) {
+        match self.has(name) {
             true => Err(self.wrong(&format!("{name} is given twice"))),
             false => Ok(Some(value)),
         }

@@ -7,7 +7,7 @@ use khalixoshi::{depths, verdicts, Refused, PACK_MAX};
 
 use crate::args::Args;
 use crate::failure::{Failure, Outcome};
-use crate::{files, lines};
+use crate::{explain, files, hidden, hints, lines};
 
 pub const HELP: &str = "\
 khx check: the verdict on each rule of a pack, and why a rule is refused.
@@ -16,7 +16,8 @@ usage: khx check PACK
 
 First a line for each rule, as packcheck prints them: `TTTT accepted` or `TTTT refused N at AAAA`, or only
 `pack refused N` (tag and address in hex). Then, for each rule refused, the listing around the instruction
-refused, which is marked with >, what the number means, and what to do about it.
+refused, which is marked with >, what the number means, how the rule comes to it, and what to do about it; and,
+for each rule accepted of which the listing would not show all that runs, a warning: khx list --paths does.
 
 PACK may be -, standard input. Exit status: 0 where every rule is accepted, 1 where one is refused.
 ";
@@ -29,15 +30,21 @@ pub fn main(args: Args, out: &mut dyn Write) -> Result<Outcome, Failure> {
         Ok(entries) => entries,
         Err(error) => {
             writeln!(out, "\n{error}\n  {}", error.advice())?;
+            if let Some(hint) = hints::for_pack((&file, &pack)) {
+                writeln!(out, "  hint: {hint}")?;
+            }
             return Ok(Outcome::Bad);
         }
     };
     let mut outcome = Outcome::Good;
     for entry in entries {
         let program = pack::body(&pack, &entry);
-        if let Err(refused) = depths(program, entry.cells.into()) {
-            outcome = Outcome::Bad;
-            out.write_all(explained(&entry, program, refused).as_bytes())?;
+        match depths(program, entry.cells.into()) {
+            Ok(map) => out.write_all(warned(&entry, program, &map).as_bytes())?,
+            Err(refused) => {
+                outcome = Outcome::Bad;
+                out.write_all(explained(&entry, program, refused).as_bytes())?;
+            }
         }
     }
     Ok(outcome)
@@ -47,6 +54,19 @@ fn explained(entry: &Entry, program: &[u8], refused: Refused) -> String {
     let head = lines::head(entry);
     let place = refused.at.map(|at| lines::around(program, at));
     let place = place.unwrap_or_default();
-    let advice = refused.error.advice();
-    format!("\n{head}\n{place}  {refused}\n  {advice}\n")
+    let why = explain::refusal(program, entry.cells.into(), refused);
+    let why = why.map_or(String::new(), |why| format!("  {why}\n"));
+    let advice = refused.advice();
+    format!("\n{head}\n{place}  {refused}\n{why}  {advice}\n")
+}
+
+/// What is said of an accepted rule: nothing, but where its listing hides something.
+fn warned(entry: &Entry, program: &[u8], map: &[u16]) -> String {
+    let place = match hidden::met(program, map).first() {
+        Some(hidden) => lines::around(program, hidden.at),
+        None => return String::new(),
+    };
+    let (head, tag) = (lines::head(entry), entry.tag);
+    let warning = hidden::warning(program, entry.cells.into()).unwrap_or_default();
+    format!("\n{head}\n{place}  warning: {tag:04X}: {warning}\n")
 }

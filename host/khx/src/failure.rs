@@ -30,6 +30,19 @@ impl Failure {
         Failure::Usage(message.into())
     }
 
+    /// The same, with a hint behind the message if there is one.
+    pub fn hinted(self, hint: Option<String>) -> Failure {
+        let with = |message: String| match &hint {
+            Some(hint) => format!("{message} (hint: {hint})"),
+            None => message,
+        };
+        match self {
+            Failure::File(message) => Failure::File(with(message)),
+            Failure::Refused(message) => Failure::Refused(with(message)),
+            other => other,
+        }
+    }
+
     /// The command's exit status.
     pub fn status(&self) -> u8 {
         match self {

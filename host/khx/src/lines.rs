@@ -3,13 +3,14 @@
 use khalixoshi::pack::Entry;
 use khalixoshi::{decode, listing, INSTRUCTION_MAX};
 
+use crate::words::count;
+
 /// How many lines are shown before a place, and how many after it.
 const AROUND: usize = 4;
 
 /// What stands above the listing of a pack's rule.
 pub fn head(entry: &Entry) -> String {
-    let of = |count, one: &str| format!("{count} {one}{}", if count == 1 { "" } else { "s" });
-    let (cells, bytes) = (of(entry.cells, "cell"), of(entry.length, "byte"));
+    let (cells, bytes) = (count(entry.cells, "cell"), count(entry.length, "byte"));
     format!("{:04X}: {cells}, {bytes}", entry.tag)
 }
 
@@ -21,6 +22,15 @@ pub fn text_at(program: &[u8], at: usize) -> Option<String> {
     let lines = listing(window).ok()?;
     let (_, text) = lines.lines().next()?.split_once(' ')?;
     Some(text.to_string())
+}
+
+/// Where the instruction at an address jumps to, or what it calls, if the code says so.
+pub fn target(program: &[u8], at: usize) -> Option<usize> {
+    let instruction = decode(program, at).ok()?.instruction;
+    match instruction.code {
+        0x3B..=0x3E | 0x55..=0x58 => Some(instruction.number.into()),
+        _ => None,
+    }
 }
 
 /// The listing around an address, the line at it marked. Before it the lines are
@@ -43,8 +53,15 @@ pub fn around(program: &[u8], place: usize) -> String {
     shown
 }
 
+/// The line of the listing in whose bytes an address of a program is: itself, where
+/// it is a line.
+pub fn line_of(program: &[u8], place: usize) -> usize {
+    let before = addresses(program, 0).take_while(|at| *at <= place);
+    before.last().unwrap_or_default()
+}
+
 /// The addresses of a listing's lines, from one of them on.
-fn addresses(program: &[u8], from: usize) -> impl Iterator<Item = usize> + '_ {
+pub fn addresses(program: &[u8], from: usize) -> impl Iterator<Item = usize> + '_ {
     let next = move |at: &usize| Some(at + decode(program, *at).map_or(1, |read| read.length));
     std::iter::successors(Some(from), next).take_while(move |at| *at < program.len())
 }

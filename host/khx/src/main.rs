@@ -1,18 +1,25 @@
 //! khx: the command for people. Here: which command was asked for, and how it ends.
 
 mod args;
+mod aside;
 mod bench;
 mod check;
 mod conform;
+mod explain;
 mod failure;
 mod files;
+mod hidden;
+mod hints;
 mod lines;
 mod list;
+mod looks;
 mod manifest;
 mod pack;
+mod paths;
 mod progress;
 mod run;
 mod terminal;
+mod words;
 
 use std::ffi::OsString;
 use std::io::{self, BufWriter, ErrorKind, Write};
@@ -52,13 +59,9 @@ fn main() -> ExitCode {
         Ok(Outcome::Bad) => ExitCode::from(1),
         Err(Failure::Output(error)) if error.kind() == ErrorKind::BrokenPipe => ExitCode::SUCCESS,
         Err(failure) => {
-            // What was printed before goes first. Where neither can be written, the status tells.
+            // What was printed before goes first, if it can be written.
             let _ = out.flush();
-            let _ = writeln!(
-                io::stderr(),
-                "khx: {}",
-                failure.to_string().replace('\n', " ")
-            );
+            aside::tell(&failure.to_string());
             ExitCode::from(failure.status())
         }
     }

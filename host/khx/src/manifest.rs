@@ -18,9 +18,13 @@ pub struct Line {
     pub file: PathBuf,
 }
 
+/// What the file of a manifest holds, but no more than shows that it is over size.
+pub fn read(manifest: &OsStr) -> Result<Vec<u8>, Failure> {
+    files::read(manifest, MANIFEST_MAX)
+}
+
 /// The lines of a manifest; their files are looked for from its folder.
-pub fn read(manifest: &OsStr) -> Result<Vec<Line>, Failure> {
-    let text = files::read(manifest, MANIFEST_MAX)?;
+pub fn rules(manifest: &OsStr, text: &[u8]) -> Result<Vec<Line>, Failure> {
     if text.len() > MANIFEST_MAX {
         let name = files::name(manifest);
         return Err(Failure::File(format!("{name}: over {MANIFEST_MAX} bytes")));
@@ -29,10 +33,15 @@ pub fn read(manifest: &OsStr) -> Result<Vec<Line>, Failure> {
         Some(folder) if folder != Path::new("") => folder,
         _ => Path::new("."),
     };
-    lines(&String::from_utf8_lossy(&text), folder).map_err(|(number, message)| {
+    lines(&String::from_utf8_lossy(text), folder).map_err(|(number, message)| {
         let name = files::name(manifest);
         Failure::File(format!("{name}:{number}: {message}"))
     })
+}
+
+/// Whether a text is a manifest of one rule or more.
+pub fn has_rules(text: &str) -> bool {
+    lines(text, Path::new(".")).map_or(false, |lines| !lines.is_empty())
 }
 
 /// The lines, or the number of a wrong one and what is wrong.

@@ -9,7 +9,7 @@ use khalixoshi::{Error, PROGRAM_MAX};
 use crate::args::Args;
 use crate::failure::{Failure, Outcome};
 use crate::manifest::{self, Line};
-use crate::{files, terminal};
+use crate::{aside, files, hints, terminal};
 
 pub const HELP: &str = "\
 khx pack: builds a pack from a manifest of its rules.
@@ -37,7 +37,7 @@ pub fn main(mut args: Args, out: &mut dyn Write) -> Result<Outcome, Failure> {
         let message = "pack: a pack is no text for a terminal: name a file with -o";
         return Err(Failure::usage(message));
     }
-    let pack = packed(&manifest)?;
+    let pack = packed(&manifest, target.as_deref())?;
     match target {
         Some(file) => files::write(&file, &pack)?,
         None => out.write_all(&pack)?,
@@ -45,16 +45,30 @@ pub fn main(mut args: Args, out: &mut dyn Write) -> Result<Outcome, Failure> {
     Ok(Outcome::Good)
 }
 
-fn packed(manifest: &OsStr) -> Result<Vec<u8>, Failure> {
-    let lines = manifest::read(manifest)?;
+fn packed(manifest: &OsStr, target: Option<&OsStr>) -> Result<Vec<u8>, Failure> {
+    let exchanged = || hints::for_target(target);
+    let text = manifest::read(manifest).map_err(|failure| failure.hinted(exchanged()))?;
+    let lines = manifest::rules(manifest, &text).map_err(|failure| {
+        let other = || hints::for_manifest((manifest, &text));
+        failure.hinted(exchanged().or_else(other))
+    })?;
     let body = |line: &Line| files::read(line.file.as_os_str(), PROGRAM_MAX);
     let bodies = lines.iter().map(body).collect::<Result<Vec<_>, _>>()?;
     let rules: Vec<Rule> = lines.iter().zip(&bodies).map(rule).collect();
-    build(&rules).map_err(|error| {
-        let name = files::name(manifest);
-        let number = lines[refused_by(&rules, error)].number;
-        Failure::Refused(format!("{name}:{number}: refused {error}"))
-    })
+    let mut hints = lines.iter().zip(&bodies).map(hint);
+    let pack = build(&rules).map_err(|error| {
+        let (name, by) = (files::name(manifest), refused_by(&rules, error));
+        let message = format!("{name}:{}: refused {error}", lines[by].number);
+        Failure::Refused(message).hinted(hints.nth(by).flatten())
+    })?;
+    hints.for_each(aside::hint);
+    Ok(pack)
+}
+
+/// Of a rule's file that may be no program.
+fn hint((line, body): (&Line, &Vec<u8>)) -> Option<String> {
+    let file = line.file.as_os_str();
+    hints::for_program(&files::name(file), (file, body))
 }
 
 fn rule<'a>((line, body): (&Line, &'a Vec<u8>)) -> Rule<'a> {

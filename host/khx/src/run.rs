@@ -7,7 +7,7 @@ use khalixoshi::{Ran, State, Status, CELLS_MAX, DATA_MAX, PROGRAM_MAX};
 use crate::args::Args;
 use crate::failure::{Failure, Outcome};
 use crate::progress::Progress;
-use crate::{files, lines, terminal};
+use crate::{aside, files, hints, lines, terminal};
 
 pub const HELP: &str = "\
 khx run: runs a program over a font table, from its beginning.
@@ -55,8 +55,11 @@ pub fn main(mut args: Args, out: &mut dyn Write) -> Result<Outcome, Failure> {
             steps: 0,
         },
     };
+    let hint = hints::for_run((&program, &run.program), (&table, &run.data));
     // No steps yet: what is refused is refused before anything is printed.
-    run.go_on(0)?;
+    run.go_on(0)
+        .map_err(|failure| failure.hinted(hint.clone()))?;
+    aside::hint(hint);
     match trace {
         true => run.step_by_step(budget, out)?,
         false => run.finish(budget)?,

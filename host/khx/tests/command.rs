@@ -1,71 +1,15 @@
 //! The command as a person starts it.
 
+mod start;
+
 use std::fs;
 use std::io::{BufRead, BufReader, Write};
 use std::path::{Path, PathBuf};
-use std::process::{Child, Command, Output, Stdio};
+use std::process::Stdio;
 
-const ROOT: &str = concat!(env!("CARGO_MANIFEST_DIR"), "/../..");
-const M1: [u8; 4] = [0x85, 0x83, 0x15, 0x00];
-const PACK: [u8; 14] = [1, 0, 7, 0, 2, 0, 10, 0, 4, 0, 0x85, 0x83, 0x15, 0x00];
-
-/// The command, under the emulator by which cargo runs programs of another processor.
-fn command(words: &[&str]) -> Command {
-    let program = env!("CARGO_BIN_EXE_khx");
-    let mut command = match std::env::var("CARGO_TARGET_X86_64_UNKNOWN_LINUX_GNU_RUNNER") {
-        Ok(emulator) => {
-            let mut command = Command::new(emulator);
-            command.arg(program);
-            command
-        }
-        Err(_) => Command::new(program),
-    };
-    command.args(words).stdin(Stdio::null());
-    command
-}
-
-fn khx(words: &[&str]) -> Output {
-    command(words).output().unwrap()
-}
-
-fn started(words: &[&str]) -> Child {
-    let mut command = command(words);
-    command.stdin(Stdio::piped()).stdout(Stdio::piped());
-    command.stderr(Stdio::piped()).spawn().unwrap()
-}
-
-fn khx_reading(words: &[&str], input: &[u8]) -> Output {
-    let mut child = started(words);
-    child.stdin.take().unwrap().write_all(input).unwrap();
-    child.wait_with_output().unwrap()
-}
-
-/// A file that holds these bytes.
-fn file(name: &str, bytes: &[u8]) -> String {
-    let path = Path::new(env!("CARGO_TARGET_TMPDIR")).join(name);
-    fs::create_dir_all(path.parent().unwrap()).unwrap();
-    fs::write(&path, bytes).unwrap();
-    path.into_os_string().into_string().unwrap()
-}
-
-fn assert_prints(output: &Output, status: i32, text: &str) {
-    assert_eq!(String::from_utf8_lossy(&output.stderr), "");
-    assert_eq!(String::from_utf8_lossy(&output.stdout), text);
-    assert_eq!(output.status.code(), Some(status));
-}
-
-/// Nothing is printed, and one line on standard error says why.
-fn assert_fails(output: &Output, status: i32, told: &str) {
-    let error = String::from_utf8_lossy(&output.stderr);
-    assert_eq!(String::from_utf8_lossy(&output.stdout), "", "{error}");
-    assert!(
-        error.starts_with("khx: ") && error.contains(told),
-        "{error}"
-    );
-    assert_eq!(error.matches('\n').count(), 1, "{error}");
-    assert!(error.ends_with('\n'));
-    assert_eq!(output.status.code(), Some(status), "{error}");
-}
+use start::{
+    assert_fails, assert_prints, command, file, khx, khx_reading, started, M1, PACK, ROOT,
+};
 
 #[test]
 fn help() {
@@ -90,7 +34,7 @@ fn help() {
 fn bad_usage() {
     let m1 = file("usage/m1.rex", &M1);
     let m1 = m1.as_str();
-    let wrong: [(&[&str], &str); 21] = [
+    let wrong: [(&[&str], &str); 24] = [
         (&[], "no command"),
         (&["verify"], "no command verify"),
         (&["help", "me"], "too many: me"),
@@ -99,6 +43,12 @@ fn bad_usage() {
         (&["check", "--all", m1], "no option --all"),
         (&["list"], "no FILE"),
         (&["list", "--pack", "--program", m1], "--program and --pack"),
+        (&["list", "--cells", "1", m1], "without --paths"),
+        (&["list", "--paths", "--cells", "65536", m1], "--cells"),
+        (
+            &["list", "--paths", "--pack", "--cells", "1", m1],
+            "a pack states",
+        ),
         (&["run", m1], "no TABLE"),
         (&["run", "-", "-"], "standard input"),
         (&["run", m1, m1, "--cells"], "--cells needs a value"),
@@ -150,6 +100,7 @@ fn check_explains() {
     0000 push-u8 $01
   > 0001 jump-imm8 $00
   refused 10 at 0001: the address that the instruction leads to is met at two depths
+  0001 leads to 0000 with 1 value; 0000 was met first with 0 values, as the program's start
   let every path to an address leave the same number of values
 ";
     assert!(told.contains(refused), "{told}");
