@@ -47,6 +47,7 @@ mod listing;
 pub mod pack;
 mod report;
 mod run;
+pub mod tables;
 mod verify;
 
 pub use error::{Error, Fault};
