@@ -8,10 +8,12 @@ mod failure;
 mod files;
 mod lines;
 mod list;
+mod machine;
 mod manifest;
 mod pack;
 mod progress;
 mod run;
+mod table;
 mod terminal;
 
 use std::ffi::OsString;

@@ -1,70 +1,28 @@
 //! The command as a person starts it.
 
+mod started;
+
 use std::fs;
 use std::io::{BufRead, BufReader, Write};
 use std::path::{Path, PathBuf};
-use std::process::{Child, Command, Output, Stdio};
+use std::process::{Child, Output, Stdio};
+
+use started::{assert_fails, assert_prints, command, file, khx};
 
 const ROOT: &str = concat!(env!("CARGO_MANIFEST_DIR"), "/../..");
 const M1: [u8; 4] = [0x85, 0x83, 0x15, 0x00];
 const PACK: [u8; 14] = [1, 0, 7, 0, 2, 0, 10, 0, 4, 0, 0x85, 0x83, 0x15, 0x00];
 
-/// The command, under the emulator by which cargo runs programs of another processor.
-fn command(words: &[&str]) -> Command {
-    let program = env!("CARGO_BIN_EXE_khx");
-    let mut command = match std::env::var("CARGO_TARGET_X86_64_UNKNOWN_LINUX_GNU_RUNNER") {
-        Ok(emulator) => {
-            let mut command = Command::new(emulator);
-            command.arg(program);
-            command
-        }
-        Err(_) => Command::new(program),
-    };
-    command.args(words).stdin(Stdio::null());
-    command
-}
-
-fn khx(words: &[&str]) -> Output {
-    command(words).output().unwrap()
-}
-
-fn started(words: &[&str]) -> Child {
+fn piped(words: &[&str]) -> Child {
     let mut command = command(words);
     command.stdin(Stdio::piped()).stdout(Stdio::piped());
     command.stderr(Stdio::piped()).spawn().unwrap()
 }
 
 fn khx_reading(words: &[&str], input: &[u8]) -> Output {
-    let mut child = started(words);
+    let mut child = piped(words);
     child.stdin.take().unwrap().write_all(input).unwrap();
     child.wait_with_output().unwrap()
-}
-
-/// A file that holds these bytes.
-fn file(name: &str, bytes: &[u8]) -> String {
-    let path = Path::new(env!("CARGO_TARGET_TMPDIR")).join(name);
-    fs::create_dir_all(path.parent().unwrap()).unwrap();
-    fs::write(&path, bytes).unwrap();
-    path.into_os_string().into_string().unwrap()
-}
-
-fn assert_prints(output: &Output, status: i32, text: &str) {
-    assert_eq!(String::from_utf8_lossy(&output.stderr), "");
-    assert_eq!(String::from_utf8_lossy(&output.stdout), text);
-    assert_eq!(output.status.code(), Some(status));
-}
-
-/// Nothing is printed, and one line on standard error says why.
-fn assert_fails(output: &Output, status: i32, told: &str) {
-    let error = String::from_utf8_lossy(&output.stderr);
-    assert_eq!(String::from_utf8_lossy(&output.stdout), "", "{error}");
-    assert!(
-        error.starts_with("khx: ") && error.contains(told),
-        "{error}"
-    );
-    assert_eq!(error.matches('\n').count(), 1, "{error}");
-    assert!(error.ends_with('\n'));
-    assert_eq!(output.status.code(), Some(status), "{error}");
 }
 
 #[test]
@@ -249,7 +207,7 @@ stack FFFE
     assert_eq!(output.status.code(), Some(1));
 }
 
-/// A run in stretches comes to the same as a run at once.
+/// A run in stretches comes to the same as a run at once; it has not halted.
 #[test]
 fn run_out_of_budget() {
     let idle = file("run/idle.rex", &[0x3C, 0x00]);
@@ -258,7 +216,7 @@ fn run_out_of_budget() {
         let text = format!(
             "status running at 0000: the budget is used\nsteps {budget}\ndepth 0\nstack -\n"
         );
-        assert_prints(&output, 0, &text);
+        assert_prints(&output, 1, &text);
     }
 }
 
@@ -367,7 +325,7 @@ fn conform_by_either_engine() {
 /// Who asks line by line gets each answer before the next question.
 #[test]
 fn conform_answers_at_once() {
-    let mut child = started(&["conform"]);
+    let mut child = piped(&["conform"]);
     let mut input = child.stdin.take().unwrap();
     let mut output = BufReader::new(child.stdout.take().unwrap());
     for _ in 0..3 {
@@ -383,7 +341,7 @@ fn conform_answers_at_once() {
 /// A reader that goes away ends the command quietly.
 #[test]
 fn a_closed_pipe() {
-    let mut child = started(&["conform"]);
+    let mut child = piped(&["conform"]);
     drop(child.stdout.take());
     let mut input = child.stdin.take().unwrap();
     // The command may be gone before all is written.
