@@ -107,7 +107,7 @@ static verdict said(khx_ran ran, const uint16_t *cells, size_t cells_length)
     return says;
 }
 
-/* Runs a verified rule over the table, and again over the bytes that it asks for, until it says. */
+/* Runs a verified rule over the table, and again over the bytes that it asks for, until it says. One table at a time: the memories are static. */
 static verdict run(const uint8_t *rule, size_t rule_length, size_t cells_length, const subject *of)
 {
     static uint8_t data[KHX_DATA_MAX];

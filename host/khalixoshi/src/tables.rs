@@ -362,8 +362,8 @@ impl Preamble {
 
 impl Verdict {
     /// Whether the table is good: refused, and without a verdict, it is not.
-    pub fn is_good(&self) -> bool {
-        *self == Verdict::Good
+    pub fn is_good(self) -> bool {
+        self == Verdict::Good
     }
 }
 
