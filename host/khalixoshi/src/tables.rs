@@ -238,11 +238,11 @@ impl<'a> Lending<'a> {
             Status::Faulted(fault) => return Err(Why::Fault(fault, state.address)),
             Status::Halted => {}
         }
-        match state.stack(cells) {
-            [1] => Ok(Some(Verdict::Good)),
-            [0] => self.lend_what_is_asked().map(|()| None),
-            [reason] => Ok(Some(Verdict::Refused(*reason))),
-            _ => Err(Why::Depth(state.depth)),
+        match (state.depth, state.stack(cells)) {
+            (1, [1]) => Ok(Some(Verdict::Good)),
+            (1, [0]) => self.lend_what_is_asked().map(|()| None),
+            (1, [reason]) => Ok(Some(Verdict::Refused(*reason))),
+            (depth, _) => Err(Why::Depth(depth)),
         }
     }
 

@@ -222,6 +222,19 @@ fn only_its_own_bytes_are_kept() {
     assert_eq!(lending.left(), 1_000 - 100 - 3);
 }
 
+/// A host that hands in fewer cells than the rule left values has no good table by it.
+#[test]
+fn cells_that_are_not_the_rules() {
+    let mut lending = Lending::new(&[], &FACTS, 1_000).unwrap();
+    let none = |depth| Next::Verdict(Verdict::None(Why::Depth(depth)));
+    assert_eq!(lending.after(&halted(2), &[1]), none(2));
+    assert_eq!(lending.after(&halted(1), &[]), none(1));
+    assert_eq!(
+        lending.after(&halted(1), &[9, 1]),
+        Next::Verdict(Verdict::Good)
+    );
+}
+
 #[test]
 fn a_rule_that_asks_for_each_next_byte() {
     let table: Vec<u8> = (1..=200).collect();

@@ -26,8 +26,8 @@ the mark KHX1, and behind them the whole table. `tools/lend FONT TABLE` writes i
 verifier accepts it for the cells, and again over the bytes that it asks for; each byte lent counts as a step
 of the budget. The verdict is `good`, `refused REASON`, or `no verdict: ` and why.
 
-A file without the mark is the data as it stands, run once, without a verdict. So is a table as it stands in
-the font: lay it out first, or a rule reads the wrong bytes.
+A file without the mark is the data as it stands, run over once, and there is no verdict. A table as it stands
+in the font is such a file, and no data for the rules in examples/, whatever they halt with: lay it out first.
 
 Printed are the status (halted, faulted with its number and meaning, or running where the budget is used) with
 the address, the steps of all runs, the depth and the stack in hex, its top first; and the verdict.

@@ -61,7 +61,7 @@ fn no_verdict() {
     let none = |name: &str, rule: &[u8], words: &[&str], status: &str, why: &str| {
         let rule = file(&format!("none/{name}.rex"), rule);
         let table = laid_out(&format!("none/{name}"), &[]);
-        let all = [&["run", &rule, &table], words].concat();
+        let all = [&["run", &rule, &table][..], words].concat();
         let line = format!("no verdict: {why}\n");
         assert_prints(&khx(&all), 1, &format!("{status}{line}"));
         assert_prints(&khx(&[&all[..], &["--verdict"]].concat()), 1, &line);
