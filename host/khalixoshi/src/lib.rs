@@ -1,8 +1,12 @@
 //! The proved rule engine of a font sanitiser, for Rust: a safe face over
 //! libkhalixoshi.a, whose functions are proved to do what their contracts say.
 //!
-//! A rule is a small program. It is verified once, and then run over a font table
-//! as its data:
+//! A host that judges font tables needs [`tables::judge`] alone: a pack of rules, a
+//! rule's tag and a table go in, and a verdict comes out, good only where the rule said
+//! so. The rest is what it is made of.
+//!
+//! A rule is a small program. It is verified once, and then run over data that the
+//! host lays out for it:
 //!
 //! ```
 //! use khalixoshi::{depths, State, Status};
@@ -11,8 +15,8 @@
 //! let program = [0x85, 0x83, 0x15, 0x00];
 //! assert_eq!(depths(&program, 2)?, [0, 1, 2, 1]);
 //!
-//! let (mut table, mut cells) = ([], [0; 2]);
-//! let ran = State::fresh().run(&program, &mut table, &mut cells, 10)?;
+//! let (mut data, mut cells) = ([], [0; 2]);
+//! let ran = State::fresh().run(&program, &mut data, &mut cells, 10)?;
 //! assert_eq!(ran.steps, 4);
 //! assert_eq!(ran.state.status, Status::Halted);
 //! assert_eq!(ran.state.stack(&cells), [65_534]);
@@ -47,6 +51,7 @@ mod listing;
 pub mod pack;
 mod report;
 mod run;
+pub mod tables;
 mod verify;
 
 pub use error::{Error, Fault};

@@ -10,16 +10,28 @@ use crate::failure::Failure;
 /// What a file holds, but no more than one byte over `most`: that is enough for the
 /// engine to see that it is over size.
 pub fn read(file: &OsStr, most: usize) -> Result<Vec<u8>, Failure> {
-    let most = most as u64 + 1;
-    let mut bytes = Vec::new();
-    let read = match file == "-" {
-        true => io::stdin().lock().take(most).read_to_end(&mut bytes),
-        false => File::open(file).and_then(|file| file.take(most).read_to_end(&mut bytes)),
+    read_by_head(file, 0, |_| most)
+}
+
+/// The same, where the first bytes of the file, so many if it has them, say how many
+/// are the most.
+pub fn read_by_head(
+    file: &OsStr,
+    head: usize,
+    most: impl FnOnce(&[u8]) -> usize,
+) -> Result<Vec<u8>, Failure> {
+    let read = || -> io::Result<Vec<u8>> {
+        let mut from: Box<dyn Read> = match file == "-" {
+            true => Box::new(io::stdin().lock()),
+            false => Box::new(File::open(file)?),
+        };
+        let mut bytes = Vec::new();
+        from.by_ref().take(head as u64).read_to_end(&mut bytes)?;
+        let rest = (most(&bytes) + 1).saturating_sub(bytes.len());
+        from.take(rest as u64).read_to_end(&mut bytes)?;
+        Ok(bytes)
     };
-    match read {
-        Ok(_) => Ok(bytes),
-        Err(error) => Err(unusable(file, &error)),
-    }
+    read().map_err(|error| unusable(file, &error))
 }
 
 /// Writes a file.

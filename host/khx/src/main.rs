@@ -13,11 +13,13 @@ mod hints;
 mod lines;
 mod list;
 mod looks;
+mod machine;
 mod manifest;
 mod pack;
 mod paths;
 mod progress;
 mod run;
+mod table;
 mod terminal;
 mod words;
 

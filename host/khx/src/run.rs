@@ -1,149 +1,178 @@
-//! khx run: runs a program over a font table.
+//! khx run: runs a program over a font table, and says its verdict.
 
 use std::io::Write;
 
-use khalixoshi::{Ran, State, Status, CELLS_MAX, DATA_MAX, PROGRAM_MAX};
+use khalixoshi::tables::{tests_mark, Facts, Lending, Next, Preamble, Verdict, Why, BUDGET};
+use khalixoshi::{Status, CELLS_MAX, PROGRAM_MAX};
 
 use crate::args::Args;
 use crate::failure::{Failure, Outcome};
-use crate::progress::Progress;
-use crate::{aside, files, hints, lines, terminal};
+use crate::machine::{self, Machine};
+use crate::table::{self, Table};
+use crate::{aside, files, hints};
 
 pub const HELP: &str = "\
-khx run: runs a program over a font table, from its beginning.
+khx run: runs a program over a font table, and says its verdict.
 
-usage: khx run PROGRAM TABLE [--cells N] [--budget N] [--trace]
+usage: khx run PROGRAM TABLE [--cells N] [--budget N] [--trace] [--verdict]
 
   --cells N    so many stack cells (0 to 65535; 1024, the most that are taken, without it)
-  --budget N   at most so many steps (0 to 4294967295; 10000000 without it)
+  --budget N   at most so many steps (0 to 4294967295; 20000000 without it)
   --trace      print each step first: address, instruction, depth, and the top of the stack before it
+  --verdict    print the verdict alone
 
-The table is the program's data. Printed are the status (halted, faulted with its number and meaning, or running
-where the budget is used) with the address, the steps, the depth and the stack in hex, its top first.
+TABLE is a table laid out as the rules in examples/ expect it (examples/README.md): 64 bytes that begin with
+the mark KHX1, and behind them the whole table. `tools/lend FONT TABLE` writes it. The program is run if the
+verifier accepts it for the cells, and again over the bytes that it asks for; each byte lent counts as a step
+of the budget. The verdict is `good`, `refused REASON`, or `no verdict: ` and why.
 
-PROGRAM or TABLE may be -, standard input. Exit status: 0, or 1 where it is faulted or refused.
+A file without the mark is the data as it stands, run over once, and there is no verdict. A table as it stands
+in the font is such a file: lay it out first. A rule that begins with the test of the mark, as those in examples/
+do, is not run over it.
+
+Printed are the status (halted, faulted with its number and meaning, or running where the budget is used) with
+the address, the steps of all runs, the depth and the stack in hex, its top first; and the verdict.
+
+PROGRAM or TABLE may be -, standard input. Exit status: 0 for the verdict good, or, without the mark and without
+--verdict, for a halt; 1 for anything else; 2 for bad usage, or a file that cannot be read or is laid out wrong.
 ";
 
-const BUDGET: u32 = 10_000_000;
-/// The steps between two looks at the clock.
-const STRETCH: u32 = 1_000_000;
-/// The values of the stack that a traced step shows.
-const TOP: usize = 8;
-
-/// A program, the memories that it runs over, and what it has come to.
-struct Run {
-    program: Vec<u8>,
-    data: Vec<u8>,
-    cells: Vec<u16>,
-    ran: Ran,
+/// What was asked for beside the files.
+struct Wanted {
+    budget: u32,
+    trace: bool,
+    verdict_alone: bool,
 }
 
 pub fn main(mut args: Args, out: &mut dyn Write) -> Result<Outcome, Failure> {
     let cells = args.number("--cells", CELLS_MAX as u32, 0..=65_535)?;
-    let budget = args.number("--budget", BUDGET, 0..=u32::MAX)?;
-    let trace = args.flag("--trace");
-    let [program, table] = args.files(&["PROGRAM", "TABLE"])?;
-    if program == "-" && table == "-" {
+    let wanted = Wanted {
+        budget: args.number("--budget", BUDGET, 0..=u32::MAX)?,
+        trace: args.flag("--trace"),
+        verdict_alone: args.flag("--verdict"),
+    };
+    let [program_file, table_file] = args.files(&["PROGRAM", "TABLE"])?;
+    if program_file == "-" && table_file == "-" {
         return Err(Failure::usage("run: only one file can be standard input"));
     }
-    let mut run = Run {
-        program: files::read(&program, PROGRAM_MAX)?,
-        data: files::read(&table, DATA_MAX)?,
-        cells: vec![0; cells as usize],
-        ran: Ran {
-            state: State::fresh(),
-            steps: 0,
-        },
-    };
-    let hint = hints::for_run((&program, &run.program), (&table, &run.data));
-    // No steps yet: what is refused is refused before anything is printed.
-    run.go_on(0)
-        .map_err(|failure| failure.hinted(hint.clone()))?;
-    aside::hint(hint);
-    match trace {
-        true => run.step_by_step(budget, out)?,
-        false => run.finish(budget)?,
+    let program = files::read(&program_file, PROGRAM_MAX)?;
+    let table = table::read(&table_file)?;
+    let hint = hints::for_run((&program_file, &program), (&table_file, table.plain()));
+    match wanted.answered(program, cells as usize, table, out) {
+        Ok(outcome) => {
+            aside::hint(hint);
+            Ok(outcome)
+        }
+        Err(failure) => Err(failure.hinted(hint)),
     }
-    run.print(out)
 }
 
-impl Run {
-    fn finish(&mut self, budget: u32) -> Result<(), Failure> {
-        let mut progress = Progress::new();
-        while self.has_next(budget) {
-            self.go_on(STRETCH.min(budget - self.ran.steps))?;
-            progress.show(|| format!("{} of {budget} steps", self.ran.steps));
-        }
-        Ok(())
-    }
-
-    fn step_by_step(&mut self, budget: u32, out: &mut dyn Write) -> Result<(), Failure> {
-        let mut progress = Progress::only_if(!terminal::is_output());
-        while self.has_next(budget) {
-            writeln!(out, "{}", self.next_step())?;
-            self.go_on(1)?;
-            progress.show(|| format!("{} of {budget} steps", self.ran.steps));
-        }
-        Ok(())
-    }
-
-    fn has_next(&self, budget: u32) -> bool {
-        self.ran.state.status == Status::Running && self.ran.steps < budget
-    }
-
-    fn go_on(&mut self, budget: u32) -> Result<(), Failure> {
-        let (data, cells) = (&mut self.data, &mut self.cells);
-        match self.ran.state.run(&self.program, data, cells, budget) {
-            Ok(ran) => {
-                self.ran.state = ran.state;
-                self.ran.steps += ran.steps;
-                Ok(())
+impl Wanted {
+    /// A rule that tests the mark is run over a table laid out alone.
+    fn answered(
+        &self,
+        program: Vec<u8>,
+        cells: usize,
+        table: Table,
+        out: &mut dyn Write,
+    ) -> Result<Outcome, Failure> {
+        let judges = self.verdict_alone || tests_mark(&program);
+        let mut machine = Machine::new(program, cells);
+        match table {
+            Table::LaidOut(facts, table) => {
+                let verdict = self.judged(&mut machine, &table, &facts, out)?;
+                self.say(verdict, &machine, out)
             }
-            Err(error) => Err(Failure::Refused(format!("run: refused {error}"))),
+            Table::Plain(_) if judges => self.say(Verdict::None(Why::Unmarked), &machine, out),
+            Table::Plain(mut data) => self.only_run(&mut machine, &mut data, out),
         }
     }
 
-    fn next_step(&self) -> String {
-        let State { address, depth, .. } = self.ran.state;
-        let text = lines::text_at(&self.program, address);
-        let text = text.as_deref().unwrap_or("(the program's end)");
-        let stack = self.ran.state.stack(&self.cells);
-        let top = hex(&stack[..stack.len().min(TOP)]);
-        let more = if stack.len() > TOP { " .." } else { "" };
-        format!("{address:04X} {text:<20} depth {depth}: {top}{more}")
-    }
-
-    fn print(&self, out: &mut dyn Write) -> Result<Outcome, Failure> {
-        let State {
-            address,
-            depth,
-            status,
-        } = self.ran.state;
-        match status {
-            Status::Running => {
-                writeln!(out, "status running at {address:04X}: the budget is used")?
+    /// What the program says of a table laid out, by the convention.
+    fn judged(
+        &self,
+        machine: &mut Machine,
+        table: &[u8],
+        facts: &Facts,
+        out: &mut dyn Write,
+    ) -> Result<Verdict, Failure> {
+        if let Err(refused) = machine.verified() {
+            return Ok(Verdict::None(Why::Rule(refused)));
+        }
+        let mut lending = match Lending::new(table, facts, self.budget) {
+            Ok(lending) => lending,
+            Err(why) => return Ok(Verdict::None(why)),
+        };
+        loop {
+            if let Err(error) = machine.start(lending.data()) {
+                return Ok(Verdict::None(Why::Run(error)));
             }
-            Status::Halted => writeln!(out, "status halted at {address:04X}")?,
-            Status::Faulted(fault) => {
-                let (number, meaning) = (fault.0, fault.meaning());
-                writeln!(out, "status faulted {number} at {address:04X}: {meaning}")?;
+            let left = lending.left();
+            self.run(machine, lending.data(), left, out)?;
+            let (ran, cells) = machine.came_to();
+            match lending.after(ran, cells) {
+                Next::Verdict(verdict) => return Ok(verdict),
+                Next::Again if self.trace => writeln!(out, "{}", lent_now(lending.data()))?,
+                Next::Again => {}
             }
         }
-        writeln!(out, "steps {}", self.ran.steps)?;
-        writeln!(out, "depth {depth}")?;
-        writeln!(out, "stack {}", hex(self.ran.state.stack(&self.cells)))?;
-        Ok(match status {
-            Status::Faulted(_) => Outcome::Bad,
-            Status::Running | Status::Halted => Outcome::Good,
+    }
+
+    fn only_run(
+        &self,
+        machine: &mut Machine,
+        data: &mut [u8],
+        out: &mut dyn Write,
+    ) -> Result<Outcome, Failure> {
+        machine.start(data).map_err(machine::refused)?;
+        self.run(machine, data, self.budget, out)?;
+        machine.print(out)?;
+        let (ran, _) = machine.came_to();
+        Ok(match ran.state.status {
+            Status::Halted => Outcome::Good,
+            Status::Running | Status::Faulted(_) => Outcome::Bad,
+        })
+    }
+
+    fn run(
+        &self,
+        machine: &mut Machine,
+        data: &mut [u8],
+        budget: u32,
+        out: &mut dyn Write,
+    ) -> Result<(), Failure> {
+        match self.trace {
+            true => machine.step_by_step(data, budget, out),
+            false => machine.finish(data, budget),
+        }
+    }
+
+    fn say(
+        &self,
+        verdict: Verdict,
+        machine: &Machine,
+        out: &mut dyn Write,
+    ) -> Result<Outcome, Failure> {
+        match verdict {
+            _ if self.verdict_alone => writeln!(out, "{verdict}")?,
+            Verdict::None(_) => {
+                machine.print(out)?;
+                writeln!(out, "{verdict}")?;
+            }
+            Verdict::Good | Verdict::Refused(_) => {
+                machine.print(out)?;
+                writeln!(out, "verdict: {verdict}")?;
+            }
+        }
+        Ok(match verdict {
+            Verdict::Good => Outcome::Good,
+            Verdict::Refused(_) | Verdict::None(_) => Outcome::Bad,
         })
     }
 }
 
-/// Values as hex digits, `-` where there are none.
-fn hex(values: &[u16]) -> String {
-    if values.is_empty() {
-        return "-".to_string();
-    }
-    let digits: Vec<String> = values.iter().map(|value| format!("{value:04X}")).collect();
-    digits.join(" ")
+fn lent_now(data: &[u8]) -> String {
+    let Preamble { lent, start, .. } = Preamble::read(data);
+    let bytes = if lent == 1 { "byte" } else { "bytes" };
+    format!("-- lent {lent} {bytes} from {start} on")
 }

@@ -200,7 +200,7 @@ stack FFFE
     assert_eq!(output.status.code(), Some(1));
 }
 
-/// A run in stretches comes to the same as a run at once.
+/// A run in stretches comes to the same as a run at once; it has not halted.
 #[test]
 fn run_out_of_budget() {
     let idle = file("run/idle.rex", &[0x3C, 0x00]);
@@ -209,7 +209,7 @@ fn run_out_of_budget() {
         let text = format!(
             "status running at 0000: the budget is used\nsteps {budget}\ndepth 0\nstack -\n"
         );
-        assert_prints(&output, 0, &text);
+        assert_prints(&output, 1, &text);
     }
 }
 

@@ -5,6 +5,7 @@ mod start;
 use std::fs;
 use std::path::Path;
 
+use khalixoshi::tables::{Facts, Lending, BUDGET};
 use start::{assert_fails, assert_prints, file, khx, M1, PACK, ROOT};
 
 const SOURCE: &str = "# a rule\n        push-u8  1      # good\nend:    halt\n";
@@ -221,7 +222,8 @@ fn none_where_all_is_well() {
         .filter(|rule| rule.extension() == Some("rex".as_ref()))
         .collect();
     assert!(programs.len() >= 8);
-    let table = file("well/head.data", b"KHX1\x36\0\0\0");
+    let mut lending = Lending::new(&[0; 54], &Facts::default(), BUDGET).unwrap();
+    let table = file("well/head.data", lending.data());
     for program in programs {
         let program = program.to_str().unwrap();
         untold(&["list", program]);
