@@ -9,7 +9,7 @@ use crate::args::Args;
 use crate::failure::{Failure, Outcome};
 use crate::machine::{self, Machine};
 use crate::table::{self, Table};
-use crate::{aside, files, hints};
+use crate::{aside, files, hints, words};
 
 pub const HELP: &str = "\
 khx run: runs a program over a font table, and says its verdict.
@@ -173,6 +173,5 @@ impl Wanted {
 
 fn lent_now(data: &[u8]) -> String {
     let Preamble { lent, start, .. } = Preamble::read(data);
-    let bytes = if lent == 1 { "byte" } else { "bytes" };
-    format!("-- lent {lent} {bytes} from {start} on")
+    format!("-- lent {} from {start} on", words::count(lent, "byte"))
 }

@@ -19,6 +19,12 @@ fn font(kind: &[u8; 4]) -> Vec<u8> {
     font
 }
 
+/// The file of a table of zeros, laid out.
+fn laid_out(name: &str) -> String {
+    let mut lending = Lending::new(&[0; 54], &Facts::default(), BUDGET).unwrap();
+    file(name, lending.data())
+}
+
 /// The hint that is told on standard error, beside what is printed.
 fn told(words: &[&str], status: i32) -> String {
     let output = khx(words);
@@ -73,6 +79,8 @@ fn run_for_a_program() {
     let pack = file("run_hints/rules.bin", &PACK);
     let hint = format!("PROGRAM is a rule pack: khx check {pack}, or khx list --pack {pack}");
     assert_eq!(told(&["run", &pack, "/dev/null"], 1), hint);
+    let table = laid_out("run_hints/zeros.data");
+    assert_eq!(told(&["run", &pack, &table], 1), hint);
     let broken = file("run_hints/broken.pack", &PACK[..12]);
     let hint = format!("PROGRAM is named as a rule pack: khx check {broken}");
     assert_eq!(told(&["run", &broken, "/dev/null"], 1), hint);
@@ -95,6 +103,7 @@ fn run_over_a_font() {
     let font = file("table_hints/font.ttf", &bytes);
     let hint = format!("TABLE is a font: tools/lend {font} TABLE writes one table's data");
     assert_eq!(told(&["run", &program, &font], 0), hint);
+    assert_eq!(told(&["run", &program, &font, "--verdict"], 1), hint);
     bytes.resize(70_000, 0);
     let font = file("table_hints/long.ttf", &bytes);
     let told = format!(
@@ -222,8 +231,7 @@ fn none_where_all_is_well() {
         .filter(|rule| rule.extension() == Some("rex".as_ref()))
         .collect();
     assert!(programs.len() >= 8);
-    let mut lending = Lending::new(&[0; 54], &Facts::default(), BUDGET).unwrap();
-    let table = file("well/head.data", lending.data());
+    let table = laid_out("well/head.data");
     for program in programs {
         let program = program.to_str().unwrap();
         untold(&["list", program]);
