@@ -1,4 +1,5 @@
-# run: the main job on what ships with the repository. test: the gate. host: the command khx. c-example: the C face in use.
+# run: the main job on what ships with the repository. test: the gate. host: the command khx. c-example: the programs in examples/, in C, C++ and
+# Rust.
 # soak: N cases from a seed asked of both implementations. fuzz: the C face under a fuzzer, SECONDS long.
 .PHONY: run test host c-example soak fuzz
 

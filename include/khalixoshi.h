@@ -38,7 +38,7 @@ extern "C" {
 /* Faults and refusals. */
 enum {
     KHX_NONE = 0,
-    KHX_END = 1,             /* address at or past the program's end */
+    KHX_END = 1,             /* address at or past the program's end; verifier: the instruction leads there */
     KHX_ILLEGAL = 2,         /* illegal first byte, flags or shift byte */
     KHX_CUT = 3,             /* operands cut by the program's end */
     KHX_FEW = 4,             /* fewer values than are taken */

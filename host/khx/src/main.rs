@@ -37,13 +37,13 @@ usage: khx COMMAND WORDS..
 
   check PACK            the verdict on each rule of a pack, and why a rule is refused
   list FILE             the listing of a program, or of each rule of a pack
-  run PROGRAM TABLE     runs a program over a font table
+  run PROGRAM TABLE     runs a program over a font table, and says its verdict
   pack MANIFEST         builds a pack from its rules
   conform               answers the cases of the conformance protocol
   bench                 measures the engine against plain C
 
 `khx COMMAND --help` says more. A file named - is standard input.
-Exit status: 0 good; 1 refused or faulted; 2 bad usage, or a file that cannot be read or written.
+Exit status: 0 good; 1 refused, faulted or no verdict; 2 bad usage, or a file that cannot be read or written.
 ";
 
 fn main() -> ExitCode {
