@@ -56,13 +56,15 @@ def far_cmaps():
         yield far_cmap(place, 5, 10, room=10)
         yield far_cmap(place, 15, 10, room=10)
         yield far_cmap(place, 6, 10, room=9)
-    for count in range(PIECE // 8 - 2, PIECE // 8 + 3):
-        table = mapping([(6, 10)], times=count)
+    for count in (*range(PIECE // 8 - 2, PIECE // 8 + 3), *range(8190, 8195), 20_000):
+        table = records_alone(count)
         yield table
-        yield table[:4 + 8 * count]
-        yield table[:4 + 8 * count - 1]
-        yield put(table, 4 + 8 * (count - 1) + 4, 4, len(table) - 9)
-        yield put(table, len(table) - 10, 2, 7)
+        yield table[:-1]
+        last = 4 + 8 * (count - 1)
+        for record in (last, 4 + 8 * (count // 2)):
+            for offset in (0, last - 8, last, len(table) - 10, len(table) - 9, 0xFFFFFFFF):
+                yield put(table, record + 4, 4, offset)
+    yield mapping([(6, 10)], times=PIECE // 8)
     yield mapping([(12, 16)], times=65_535)
 
 
@@ -71,6 +73,11 @@ def far_cmap(place, kind, length, room):
     place_of_length, width, _ = SUBTABLES.get(kind, SUBTABLES[6])
     body = put(put(FILL * room, 0, 2, kind), place_of_length, width, length)
     return struct.pack(">HHHHI", 0, 1, 3, 1, place).ljust(place, FILL) + body
+
+
+def records_alone(count):
+    """A cmap whose records all point to the first of them, which is itself a subtable: of format 6, ten bytes long."""
+    return struct.pack(">HH", 0, count) + struct.pack(">HHI", 6, 10, 4) * count
 
 
 def locas(width, length):
