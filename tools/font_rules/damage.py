@@ -102,7 +102,8 @@ def altered_cmaps(table):
     """The last record's offset altered, and every subtable's format and length."""
     count, = struct.unpack_from(">H", table, 2)
     last = 4 + 8 * count - 4
-    for offset in (0, 4, *around(len(table) - 10, 0xFFFFFFFF), len(table), 0xFFFFFFFF):
+    length = len(table)
+    for offset in (0, 4, *around(length - 10, 0xFFFFFFFF), *around(length, 0xFFFFFFFF), length + 65_535, length + 65_536, 0xFFFFFFFF):
         yield put(table, last, 4, offset)
     yield from moved_subtables(table, last)
     for offset in sorted({struct.unpack_from(">I", table, 8 + 8 * index)[0] for index in range(count)}):

@@ -47,7 +47,7 @@ def faces(path):
 
 
 def directories(name, file):
-    """Where the face of each face of a collection begins."""
+    """Where each face of a collection begins."""
     major, minor, count = struct.unpack_from(">4xHHI", part(name, file, "header", 0, HEADER))
     if (major, minor) not in ((1, 0), (2, 0)):
         raise Unreadable(f"{name}: a collection of version {major}.{minor}, which is neither 1.0 nor 2.0")
