@@ -1,8 +1,8 @@
-"""Damaged copies of a table: every field that a rule looks at below, at and above its limits, other lengths, other facts, and
-random bytes. Not every copy is bad: which are is for opentype.py to say."""
+"""Damaged copies of a table: every field that a rule looks at below, at and above its limits, what stands where the bytes lent at a
+time end, other lengths, other facts, and random bytes. Not every copy is bad: which are is for opentype.py to say."""
 import struct
 
-from .lending import OVERLAP, PIECE
+from .lending import PIECE
 
 # field by field: where it is, how many bytes it has, and what it is set to; also what stands beside it and does not matter
 FIELDS = {
@@ -49,7 +49,7 @@ LENGTHS = {
     "head": (53, 54, 55, 54 + 256, 54 + 65_536),
     "maxp": (5, 6, 7, 31, 32, 33, 6 + 256, 32 + 256, 6 + 65_536, 32 + 65_536),
     "hhea": (35, 36, 37, 36 + 256, 36 + 65_536),
-    "hmtx": (),
+    "hmtx": (65_535, 65_536, 131_071, 131_072),
     "OS/2": (67, 68, 69, 77, 78, 79, 85, 86, 95, 96, 97, 99, 100, 256, 68 + 256, 68 + 65_536),
     "post": (31, 32, 33, 34, 35, 256),
     "cmap": (3, 4, 5, 11, 12, 13, 256),
@@ -102,8 +102,10 @@ def altered_cmaps(table):
     """The last record's offset altered, and every subtable's format and length."""
     count, = struct.unpack_from(">H", table, 2)
     last = 4 + 8 * count - 4
-    for offset in (0, 4, *around(len(table) - 10, 0xFFFFFFFF), len(table), PIECE - 10, PIECE - 9, 65_535, 65_536, 0xFFFFFFFF):
+    length = len(table)
+    for offset in (0, 4, *around(length - 10, 0xFFFFFFFF), *around(length, 0xFFFFFFFF), length + 65_535, length + 65_536, 0xFFFFFFFF):
         yield put(table, last, 4, offset)
+    yield from moved_subtables(table, last)
     for offset in sorted({struct.unpack_from(">I", table, 8 + 8 * index)[0] for index in range(count)}):
         for kind in (*range(16), 256, 268, 65_535):
             yield put(table, offset, 2, kind)
@@ -113,12 +115,23 @@ def altered_cmaps(table):
                 yield put(put(table, offset, 2, kind), offset + place, width, min(length, limit))
 
 
+def moved_subtables(table, record):
+    """The subtable of a record laid where two bytes still tell its place and where they no longer do, and where the bytes lent at a
+    time end: of the least length, one byte too long for the table, and of no format."""
+    borders = (near for end in range(PIECE, len(table) + 1, PIECE) for near in range(end - 11, end + 3))
+    for offset in sorted({*borders, 65_535, 65_536, 65_537, len(table) // 2, len(table) - 11, len(table) - 10}):
+        for kind, length in ((6, 10), (6, len(table) - offset + 1), (12, 16), (12, len(table) - offset + 1), (7, 10)):
+            place, width, _ = SUBTABLES.get(kind, SUBTABLES[6])
+            if 0 <= offset <= len(table) - 10 and length < 256 ** width:
+                yield put(put(put(table, record, 4, offset), offset, 2, kind), offset + place, width, length)
+
+
 def altered_locas(table, facts):
     """Single offsets altered: at the ends, in the middle and where two pieces meet."""
     width, unit = loca_layout(facts)
     limit = 256 ** width - 1
-    step = (PIECE - OVERLAP) // width
-    meetings = [place + near for place in range(step, facts.glyphs, step) for near in (0, 1)]
+    step = PIECE // width
+    meetings = [place + near for place in range(step, facts.glyphs, step) for near in (-1, 0, 1)]
     for index in {0, 1, facts.glyphs // 2, facts.glyphs - 1, facts.glyphs, *meetings}:
         if not 0 <= index <= facts.glyphs:
             continue

@@ -1,57 +1,67 @@
-"""An engine that answers the conformance protocol, asked to run rules: all questions first, then all answers from one process."""
-import hashlib
+"""An engine that answers the conformance protocol (docs/CONFORMANCE.md), asked one case after the other: which bytes a rule is lent
+next follows from its last answer. So the engine must answer a line before it waits for another."""
 import subprocess
-import sys
-import tempfile
+from typing import NamedTuple
 
-BUDGET = 2_000_000
+from . import lending
+
+
+class Ran(NamedTuple):
+    """What came of a run."""
+    steps: int
+    depth: int
+    status: str         # running, halted or faulted:N; refused N where it did not begin
+    address: int
+    top: int            # the value on top of the stack, where there is one
+    told: bytes         # what is in the bytes that the host wrote
 
 
 class Engine:
     def __init__(self, command):
-        self.command = command
-        self.cases = tempfile.TemporaryFile()
-        self.asked = {}
+        self.process = subprocess.Popen(command, stdin=subprocess.PIPE, stdout=subprocess.PIPE)
+
+    def __enter__(self):
+        return self
+
+    def __exit__(self, *_):
+        self.process.stdin.close()
+        self.process.stdout.close()
+        self.process.wait()
+
+    def answer(self, case):
+        """The answer to a case: one line for one line."""
+        self.process.stdin.write(case + b"\n")
+        self.process.stdin.flush()
+        answer = self.process.stdout.readline()
+        if not answer.endswith(b"\n"):
+            raise ValueError(f"the engine ended with exit status {self.process.wait()}")
+        return answer[:-1]
 
     def refused(self, pack):
         """The lines of the pack's report that tell of a refusal."""
-        asked = subprocess.run(self.command, input=f"report {pack.hex()}\n", stdout=subprocess.PIPE, text=True, check=True)
-        return [line for line in asked.stdout.strip().strip("|").split("|") if not line.endswith(" accepted")]
+        report = self.answer(b"report " + pack.hex().encode()).decode()
+        return [line for line in report.strip("|").split("|") if not line.endswith(" accepted")]
 
-    def ask(self, rule, data):
-        """Puts the question what a rule says of a data memory, unless it was put before; gives its number."""
-        line = f"run {rule.program.hex()} {data.hex()} {'0000' * rule.cells} 0 0 running {BUDGET}\n".encode()
-        key = hashlib.sha256(line).digest()
-        if key not in self.asked:
-            self.asked[key] = len(self.asked)
-            self.cases.write(line)
-        return self.asked[key]
-
-    def verdicts(self):
-        """The verdict on each question, in order."""
-        self.cases.seek(0)
-        with subprocess.Popen(self.command, stdin=self.cases, stdout=subprocess.PIPE, text=True) as process:
-            verdicts = [verdict(line) for line in self.followed(process.stdout)]
-        if process.returncode != 0 or len(verdicts) != len(self.asked):
-            raise ValueError(f"{len(verdicts)} answers to {len(self.asked)} questions, exit status {process.returncode}")
-        return verdicts
-
-    def followed(self, answers):
-        """The answers, with a line on a terminal that tells how many have come."""
-        shown = sys.stderr.isatty()
-        for count, line in enumerate(answers, 1):
-            if shown and count % 200 == 0:
-                print(f"{count} of {len(self.asked)}", end="\r", file=sys.stderr, flush=True)
-            yield line
+    def run(self, rule, data, budget):
+        """Runs a rule on a data memory from the fresh state."""
+        hexed = data.hex().encode() or b"-"
+        case = b"run %b %b %b 0 0 running %d" % (rule.program.hex().encode(), hexed, b"0000" * rule.cells, budget)
+        return ran(self.answer(case))
 
 
-def verdict(answer):
-    """The number that a rule left, alone on its stack, when it halted; else what came instead, in words."""
-    if not answer.startswith("ok "):
-        return " ".join(answer.split()[:2])
-    _, _, _, depth, status, _, stack = answer.split()
-    if status == "running":
-        return "out of steps"
-    if status != "halted":
-        return status
-    return int(stack[-4:], 16) if depth == "1" else f"depth {depth}"
+def ran(answer):
+    """The answer to a run, as far as it is needed."""
+    word, count, address, depth, status, rest = answer.split(b" ", 5)
+    memory, _, cells = rest.rpartition(b" ")
+    if word not in (b"ok", b"refused"):
+        raise ValueError(f"no answer to a run: {answer[:40].decode()}")
+    depth = int(depth)
+    live = len(cells) - 4 * depth
+    return Ran(
+        steps=int(count) if word == b"ok" else 0,
+        depth=depth,
+        status=status.decode() if word == b"ok" else f"refused {count.decode()}",
+        address=int(address),
+        top=int(cells[live:live + 4], 16) if depth else 0,
+        told=bytes.fromhex(memory[:2 * lending.TOLD].decode()) if memory != b"-" else b"",
+    )

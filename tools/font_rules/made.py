@@ -16,6 +16,7 @@ def tables():
         yield "OS/2", struct.pack(">HhHH", version, 500, 400, 5).ljust(length, FILL), FEW
     yield "post", struct.pack(">I28x", 0x10000), FEW
     yield "post", struct.pack(">I28xH3b", 0x25000, FEW.glyphs, 0, 1, -1), FEW
+    yield "post", struct.pack(">I28xH", 0x20000, 0), FEW._replace(glyphs=0)
     yield "post", struct.pack(">I28xH", 0x20000, MOST.glyphs).ljust(140_000, FILL), MOST
     yield "post", struct.pack(">I28xH", 0x25000, MOST.glyphs).ljust(70_000, FILL), MOST
     yield "cmap", bytes(4), FEW
@@ -26,6 +27,7 @@ def tables():
     yield "cmap", mapping([(4, 16), (12, 65_536)]), FEW
     yield "hmtx", bytes(2 * (MOST.metrics + MOST.glyphs)), MOST
     yield "hmtx", bytes(140_000), FEW
+    yield "hmtx", bytes(80_000), FEW._replace(glyphs=20_000, metrics=20_000)
     yield "loca", struct.pack(">4H", 0, 10, 10, 50), FEW
     yield "loca", struct.pack(">4I", 0, 20, 20, 100).ljust(400_000, FILL), FEW._replace(loca_format=1)
     yield "loca", struct.pack(">16371I", *range(16_371)), MOST._replace(glyphs=16_370)

@@ -1,9 +1,7 @@
 """The verdict on a table, straight from the OpenType specification: what the rules are held to. Nothing here knows of bytecode, of
-the preamble or of pieces, save that cmap can be judged only as far as its first piece reaches. A verdict is 1 for a good table,
-else the first reason that applies, by the numbers at the head of each rule's source."""
+how a table is lent or of how far a rule can see. A verdict is 1 for a good table, else the first reason that applies, by the numbers
+at the head of each rule's source."""
 import struct
-
-from .lending import PIECE
 
 GOOD = 1
 
@@ -99,21 +97,20 @@ SUBTABLES = {
 
 
 def cmap(table, _):
-    reach = min(len(table), PIECE)
-    if reach < 4:
+    if len(table) < 4:
         return 2
     version, count = struct.unpack_from(">HH", table)
     if version != 0:
         return 3
-    if 4 + 8 * count > reach:
+    if 4 + 8 * count > len(table):
         return 4
     records = struct.iter_unpack(">HHI", table[4:4 + 8 * count])
-    verdicts = (subtable(table, offset, reach) for _, _, offset in records)
+    verdicts = (subtable(table, offset) for _, _, offset in records)
     return next((verdict for verdict in verdicts if verdict != GOOD), GOOD)
 
 
-def subtable(table, offset, reach):
-    if offset + 10 > reach:
+def subtable(table, offset):
+    if offset + 10 > len(table):
         return 5
     kind, = struct.unpack_from(">H", table, offset)
     if kind not in SUBTABLES:
