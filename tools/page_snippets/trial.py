@@ -1,6 +1,7 @@
 """A page tried: every snippet is run, or held to the file that it is taken from, in a scratch folder that has links to the repository's."""
 import os
 import pathlib
+import platform
 import signal
 import subprocess
 import tempfile
@@ -26,6 +27,12 @@ def tried(top, page, seconds=SECONDS_MAX):
         trial = Trial(top, page, pathlib.Path(folder), seconds)
         trial.over((top / page).read_text(encoding="utf-8"))
         return Tried(trial.snippets, trial.commands, trial.wrong)
+
+
+def commands(top, processor=platform.machine()):
+    """The folders of commands that a page speaks of: khx, and where the library is not for this processor a compiler that is."""
+    emulated = [] if processor == "x86_64" else [pathlib.Path(__file__).parent / "emulated"]
+    return [*emulated, top / "host" / "target" / "release"]
 
 
 class Trial:
@@ -116,8 +123,7 @@ class Trial:
 
     def run(self, command, folder):
         """The exit status of a command and the lines that it prints."""
-        commands = self.top / "host" / "target" / "release"
-        surroundings = {**os.environ, "PATH": f"{commands}:{os.environ['PATH']}", "LC_ALL": "C.UTF-8"}
+        surroundings = {**os.environ, "PATH": ":".join([*map(str, commands(self.top)), os.environ["PATH"]]), "LC_ALL": "C.UTF-8"}
         ran = subprocess.Popen(["bash", "-c", command.text], cwd=folder, env=surroundings, start_new_session=True,
                                stdin=subprocess.DEVNULL, stdout=subprocess.PIPE, stderr=subprocess.STDOUT)
         try:
