@@ -29,9 +29,10 @@ def tried(top, page, seconds=SECONDS_MAX):
         return Tried(trial.snippets, trial.commands, trial.wrong)
 
 
-def commands(top, processor=platform.machine()):
-    """The folders of commands that a page speaks of: khx, and where the library is not for this processor a compiler that is."""
-    emulated = [] if processor == "x86_64" else [pathlib.Path(__file__).parent / "emulated"]
+def commands(top, text, processor=platform.machine()):
+    """The folders in which a command is looked for first: that of khx, and for the compiler, where the library is not for this processor,
+    that of one whose programs start under the emulator."""
+    emulated = [pathlib.Path(__file__).parent / "emulated"] if processor != "x86_64" and text.startswith("cc ") else []
     return [*emulated, top / "host" / "target" / "release"]
 
 
@@ -123,7 +124,7 @@ class Trial:
 
     def run(self, command, folder):
         """The exit status of a command and the lines that it prints."""
-        surroundings = {**os.environ, "PATH": ":".join([*map(str, commands(self.top)), os.environ["PATH"]]), "LC_ALL": "C.UTF-8"}
+        surroundings = {**os.environ, "PATH": ":".join([*map(str, commands(self.top, command.text)), os.environ["PATH"]]), "LC_ALL": "C.UTF-8"}
         ran = subprocess.Popen(["bash", "-c", command.text], cwd=folder, env=surroundings, start_new_session=True,
                                stdin=subprocess.DEVNULL, stdout=subprocess.PIPE, stderr=subprocess.STDOUT)
         try:
