@@ -73,11 +73,13 @@ FLIPPED = 10
 
 
 def copies(tag, table, facts, random):
-    """Pairs of a table and facts, each with one thing changed."""
+    """Pairs of a table and facts, most with one thing changed."""
     for altered in altered_tables(tag, table, facts):
         yield altered, facts
     for altered in altered_facts(tag, table, facts):
         yield table, altered
+    if tag == "post":
+        yield put(table, 32, 2, 0), facts._replace(glyphs=0)        # both tell of no glyphs
     for length in sorted({0, 1, len(table) - 1, len(table) + 1, *LENGTHS[tag], *told_lengths(tag, facts)}):
         yield resized(table, length), facts
     for _ in range(FLIPPED):
@@ -92,6 +94,7 @@ def altered_tables(tag, table, facts):
         yield from (put(table, 34, 2, glyphs) for glyphs in around(facts.glyphs, 65_535))
     if tag == "post":
         yield from (put(table, 32, 2, glyphs) for glyphs in around(facts.glyphs, 65_535))
+        yield put(table, 32, 2, 0)[:34]
     if tag == "cmap":
         yield from altered_cmaps(table)
     if tag == "loca":

@@ -40,7 +40,7 @@ class Engine:
     def refused(self, pack):
         """The lines of the pack's report that tell of a refusal."""
         report = self.answer(b"report " + pack.hex().encode()).decode()
-        return [line for line in report.strip("|").split("|") if not line.endswith(" accepted")]
+        return [line[:40] for line in report.strip("|").split("|") if not line.endswith(" accepted")]
 
     def run(self, rule, data, budget):
         """Runs a rule on a data memory from the fresh state."""

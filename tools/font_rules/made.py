@@ -16,7 +16,6 @@ def tables():
         yield "OS/2", struct.pack(">HhHH", version, 500, 400, 5).ljust(length, FILL), FEW
     yield "post", struct.pack(">I28x", 0x10000), FEW
     yield "post", struct.pack(">I28xH3b", 0x25000, FEW.glyphs, 0, 1, -1), FEW
-    yield "post", struct.pack(">I28xH", 0x20000, 0), FEW._replace(glyphs=0)
     yield "post", struct.pack(">I28xH", 0x20000, MOST.glyphs).ljust(140_000, FILL), MOST
     yield "post", struct.pack(">I28xH", 0x25000, MOST.glyphs).ljust(70_000, FILL), MOST
     yield "cmap", bytes(4), FEW
