@@ -77,7 +77,7 @@ def post(table, facts):
     if len(table) < 34:
         return 5
     glyphs, = struct.unpack_from(">H", table, 32)
-    if glyphs != facts.glyphs:
+    if glyphs == 0 or glyphs != facts.glyphs:
         return 4
     return GOOD if 34 + for_a_glyph * glyphs <= len(table) else 5
 
@@ -124,6 +124,8 @@ def loca(table, facts):
     formats = {0: ("H", 2), 1: ("I", 1)}
     if facts.loca_format not in formats:
         return 3
+    if facts.glyphs == 0:
+        return 6
     width, unit = formats[facts.loca_format]
     layout = f">{facts.glyphs + 1}{width}"
     if struct.calcsize(layout) > len(table):
