@@ -3,13 +3,13 @@
 use std::io::Write;
 
 use khalixoshi::tables::{tests_mark, Facts, Lending, Next, Preamble, Verdict, Why, BUDGET};
-use khalixoshi::{Status, CELLS_MAX, PROGRAM_MAX};
+use khalixoshi::{depths, Status, CELLS_MAX, PROGRAM_MAX};
 
 use crate::args::Args;
 use crate::failure::{Failure, Outcome};
 use crate::machine::{self, Machine};
 use crate::table::{self, Table};
-use crate::{aside, files, hints, words};
+use crate::{aside, explain, files, hints, words};
 
 pub const HELP: &str = "\
 khx run: runs a program over a font table, and says its verdict.
@@ -57,13 +57,24 @@ pub fn main(mut args: Args, out: &mut dyn Write) -> Result<Outcome, Failure> {
     }
     let program = files::read(&program_file, PROGRAM_MAX)?;
     let table = table::read(&table_file)?;
-    let hint = hints::for_run((&program_file, &program), (&table_file, table.plain()));
+    let hint = hints::for_run((&program_file, &program), (&table_file, table.plain()))
+        .or_else(|| refusal(&program, cells as usize, &table));
     match wanted.answered(program, cells as usize, table, out) {
         Ok(outcome) => {
             aside::hint(hint);
             Ok(outcome)
         }
         Err(failure) => Err(failure.hinted(hint)),
+    }
+}
+
+/// Why a rule may not run over a table laid out, where it may not.
+fn refusal(program: &[u8], cells: usize, table: &Table) -> Option<String> {
+    match table {
+        Table::LaidOut(..) => depths(program, cells)
+            .err()
+            .map(|refused| explain::in_one_line(program, cells, refused)),
+        Table::Plain(_) => None,
     }
 }
 
