@@ -85,6 +85,8 @@ class Program:
 
 def unlike(name):
     """What a word may be that is like no instruction."""
+    if name.startswith((";", "//")):
+        return ": a comment begins with #"
     return f": a label is written {name}:" if NAME.fullmatch(name) else ""
 
 

@@ -137,7 +137,9 @@ def lines(path, by):
         return re.split("\r\n|\r|\n", data.decode("utf-8-sig"))
     except UnicodeDecodeError as error:
         number = error.object[:error.start].count(b"\n") + 1
-        raise Unread(f"{known(path)}:{number}: byte {error.object[error.start]:02X} is not UTF-8 text{included(by)}") from None
+        other = ": is it a program? khx list shows one" if b"\0" in data else ""
+        cause = f"byte {error.object[error.start]:02X} is not UTF-8 text{other}"
+        raise Unread(f"{known(path)}:{number}: {cause}{included(by)}") from None
 
 
 def contents(path):

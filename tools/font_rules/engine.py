@@ -18,7 +18,10 @@ class Ran(NamedTuple):
 
 class Engine:
     def __init__(self, command):
-        self.process = subprocess.Popen(command, stdin=subprocess.PIPE, stdout=subprocess.PIPE)
+        try:
+            self.process = subprocess.Popen(command, stdin=subprocess.PIPE, stdout=subprocess.PIPE)
+        except OSError as error:
+            raise ValueError(f"the engine does not start: {command[0]}: {error.strerror}") from error
 
     def __enter__(self):
         return self
@@ -40,7 +43,9 @@ class Engine:
     def refused(self, pack):
         """The lines of the pack's report that tell of a refusal."""
         report = self.answer(b"report " + pack.hex().encode()).decode()
-        return [line[:40] for line in report.strip("|").split("|") if not line.endswith(" accepted")]
+        if "|" not in report:
+            raise ValueError(f"no answer to a report: {report[:40]}")
+        return [line for line in report.strip("|").split("|") if not line.endswith(" accepted")]
 
     def run(self, rule, data, budget):
         """Runs a rule on a data memory from the fresh state."""

@@ -1,10 +1,12 @@
-"""Good tables made here, for what the fonts at hand lack: old and rare versions, every format of a cmap, and the largest tables."""
+"""Tables made here, for what the fonts at hand lack: old and rare versions, every format of a cmap, the largest tables, all of them
+good; and the tables of a font without glyphs, which are not."""
 import struct
 
 from .damage import SUBTABLES, put
 from .sfnt import Facts
 
 FEW = Facts(glyphs=3, metrics=2, loca_format=0, outlines=100)
+NONE = Facts(glyphs=0, metrics=0, loca_format=0, outlines=0)
 MOST = Facts(glyphs=65_535, metrics=65_535, loca_format=1, outlines=65_000 * 65_535)
 
 FILL = b"\xA5"     # where it does not matter what stands
@@ -32,6 +34,15 @@ def tables():
     yield "loca", struct.pack(">16371I", *range(16_371)), MOST._replace(glyphs=16_370)
     yield "loca", struct.pack(">65536H", *range(65_536)), MOST._replace(loca_format=0)
     yield "loca", struct.pack(">65536I", *range(0, 65_000 * 65_536, 65_000)), MOST
+
+
+def without_glyphs():
+    """The same of a font that has no glyphs, or of which a host told no facts: tables that would be in order but for that."""
+    yield "hhea", struct.pack(">HH32x", 1, 0), NONE
+    yield "hmtx", b"", NONE
+    yield "post", struct.pack(">I28xH", 0x20000, 0), NONE
+    yield "post", struct.pack(">I28xH", 0x25000, 0), NONE
+    yield "loca", bytes(2), NONE
 
 
 def mapping(subtables, times=1):

@@ -56,6 +56,8 @@ LINES = {
     "HALT": "no such instruction: did you mean halt?",
     "Include s.txt": "no such instruction: did you mean include?",
     "good_table": "no such instruction: a label is written good_table:",
+    "; good": "no such instruction: a comment begins with #",
+    "// good": "no such instruction: a comment begins with #",
     "jump-imm8 far": "far, which is 300, does not fit: jump-imm8 takes 0 to 255, jump-imm16 up to 65535",
     "st-u8--offs-imm8 far": "far, which is 300, does not fit: st-u8--offs-imm8 takes 0 to 255, st-u8--offs-imm16 up to 65535",
     "shl-imm4 16": "16 does not fit: shl-imm4 takes 0 to 15",
@@ -219,6 +221,8 @@ class Command(Assembling):
         self.says(["/dev/zero"], "/dev/zero: over 4,194,304 bytes, too long for a source")
         self.write("s.txt", b"\xef\xbb\xbfhalt\n\xff")
         self.says(["s.txt"], "s.txt:2: byte FF is not UTF-8 text")
+        self.write("s.rex", b"\x34\x00\xbf\x00")
+        self.says(["s.rex"], "s.rex:1: byte BF is not UTF-8 text: is it a program? khx list shows one")
 
     def test_a_terminal(self):
         self.write("s.txt", "halt\n")

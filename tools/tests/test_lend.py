@@ -80,7 +80,7 @@ class Lend(unittest.TestCase):
         self.assertEqual((other[14:24], other[64:]), (b"\7" + bytes(9), b"\0\0\x50\0\0\7"))
 
     def test_a_face_must_be_said_and_there(self):
-        self.assertEqual(self.refusal(self.font, "head", "1"), "lend: Small.ttf: no face 1: there are 1, from 0 on")
+        self.assertEqual(self.refusal(self.font, "head", "1"), "lend: Small.ttf: no face 1: there is one alone, 0")
         self.font.write_bytes(collection([TABLES, TABLES, TABLES]))
         self.assertEqual(self.refusal(self.font, "head"), "lend: Small.ttf: a collection of 3 faces: which one, 0 to 2?")
         for face in ("3", "-1"):
@@ -92,6 +92,9 @@ class Lend(unittest.TestCase):
     def test_files_that_cannot_be_read_or_written(self):
         self.assertRegex(self.refusal(self.folder / "none", "head"), "^lend: .*none: No such file or directory$")
         self.assertRegex(self.refusal("-o", self.folder / "none" / "data", self.font, "head"), "^lend: .*data: No such file or directory$")
+
+    def test_words_exchanged(self):
+        self.assertEqual(self.refusal("head", self.font), "lend: head: no such file: are FONT and TABLE exchanged?")
 
     def test_usage(self):
         self.assertIn(b"usage: lend", self.written("--help"))

@@ -1,9 +1,11 @@
-"""Tests of what the rules are held to: a cmap is judged wherever in it its records and subtables are."""
+"""Tests of what the rules are held to: a cmap is judged wherever in it its records and subtables are, and no table that needs a number
+of glyphs is good without one."""
 import pathlib
 import struct
 import unittest
 
-from font_rules import opentype
+from font_rules import made, opentype
+from font_rules.sfnt import Facts
 
 PLACES = [12, 1000, *range(65_450, 65_540), *range(130_900, 131_080), (1 << 24) - 1, 1 << 24]
 
@@ -47,6 +49,18 @@ class Cmap(unittest.TestCase):
     def test_nothing_is_known_of_how_tables_are_lent(self):
         source = pathlib.Path(opentype.__file__).read_text(encoding="utf-8")
         self.assertEqual([line for line in source.splitlines() if line.startswith(("import", "from"))], ["import struct"])
+
+
+class WithoutGlyphs(unittest.TestCase):
+    def test_no_table_is_good(self):
+        judged = [(name, opentype.JUDGES[name](table, facts)) for name, table, facts in made.without_glyphs()]
+        self.assertEqual(judged, [("hhea", 5), ("hmtx", 3), ("post", 4), ("post", 4), ("loca", 6)])
+
+    def test_with_one_glyph_they_are(self):
+        one = Facts(glyphs=1, metrics=1, loca_format=0, outlines=0)
+        self.assertEqual(opentype.hmtx(bytes(4), one), 1)
+        self.assertEqual(opentype.post(struct.pack(">I28xHH", 0x20000, 1, 0), one), 1)
+        self.assertEqual(opentype.loca(bytes(4), one), 1)
 
 
 if __name__ == "__main__":

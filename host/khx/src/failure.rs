@@ -43,6 +43,14 @@ impl Failure {
         }
     }
 
+    /// The same, with the place that led to it before the message.
+    pub fn at(self, place: &str) -> Failure {
+        match self {
+            Failure::File(message) => Failure::File(format!("{place}: {message}")),
+            other => other,
+        }
+    }
+
     /// The command's exit status.
     pub fn status(&self) -> u8 {
         match self {

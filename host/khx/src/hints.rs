@@ -13,6 +13,8 @@ pub type Given<'a> = (&'a OsStr, &'a [u8]);
 #[derive(Clone, Copy)]
 enum Kind {
     Font,
+    Compressed,
+    LaidOut,
     Pack,
     Manifest,
     Source,
@@ -28,6 +30,8 @@ pub fn for_program(word: &str, file: Given) -> Option<String> {
     }
     let kinds = [
         Kind::Font,
+        Kind::Compressed,
+        Kind::LaidOut,
         Kind::Pack,
         Kind::Manifest,
         Kind::Source,
@@ -38,7 +42,14 @@ pub fn for_program(word: &str, file: Given) -> Option<String> {
 
 /// Of a file that was given for a pack, and is refused as one.
 pub fn for_pack(file: Given) -> Option<String> {
-    let kinds = [Kind::Font, Kind::Manifest, Kind::Source, Kind::Program];
+    let kinds = [
+        Kind::Font,
+        Kind::Compressed,
+        Kind::LaidOut,
+        Kind::Manifest,
+        Kind::Source,
+        Kind::Program,
+    ];
     first(&kinds, "it", file)
 }
 
@@ -46,6 +57,8 @@ pub fn for_pack(file: Given) -> Option<String> {
 pub fn for_manifest(file: Given) -> Option<String> {
     let kinds = [
         Kind::Font,
+        Kind::Compressed,
+        Kind::LaidOut,
         Kind::Pack,
         Kind::Source,
         Kind::Program,
@@ -65,11 +78,12 @@ pub fn for_target(target: Option<&OsStr>) -> Option<String> {
 /// Of the files of a run.
 pub fn for_run(program: Given, table: Given) -> Option<String> {
     let hint = for_program("PROGRAM", program);
-    let unknown = hint.is_none() || Kind::Font.fits(program);
+    let a_table = [Kind::Font, Kind::Compressed, Kind::LaidOut];
+    let unknown = hint.is_none() || a_table.iter().any(|kind| kind.fits(program));
     if unknown && looks::ends_at_once(program.1) && Kind::Program.fits(table) {
         return Some("are PROGRAM and TABLE exchanged?".to_string());
     }
-    hint.or_else(|| first(&[Kind::Font], "TABLE", table))
+    hint.or_else(|| first(&[Kind::Font, Kind::Compressed], "TABLE", table))
 }
 
 /// The first of some kinds that a file is of, in words.
@@ -83,6 +97,8 @@ impl Kind {
     fn fits(self, (name, bytes): Given) -> bool {
         match self {
             Kind::Font => looks::is_font(bytes),
+            Kind::Compressed => looks::is_compressed(bytes),
+            Kind::LaidOut => looks::is_laid_out(bytes),
             Kind::Pack => looks::is_pack(bytes),
             Kind::Manifest => looks::is_manifest(bytes),
             Kind::Source => looks::is_source(bytes),
@@ -95,6 +111,12 @@ impl Kind {
         match self {
             Kind::Font => {
                 format!("is a font: tools/lend {name} TABLE writes one table's data")
+            }
+            Kind::Compressed => "is a WOFF font: unpack it to a plain one, of which tools/lend \
+                                 writes one table's data"
+                .to_string(),
+            Kind::LaidOut => {
+                format!("is a table laid out: khx run PROGRAM {name} runs a rule over it")
             }
             Kind::Pack => {
                 format!("is a rule pack: khx check {name}, or khx list --pack {name}")

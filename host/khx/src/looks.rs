@@ -3,6 +3,7 @@
 use std::ffi::OsStr;
 use std::path::Path;
 
+use khalixoshi::tables::{MARK, PREAMBLE};
 use khalixoshi::{depths, pack, Error, Refused, CELLS_MAX};
 use second::opcodes::{Opcode, Operation, OPCODES};
 
@@ -62,6 +63,16 @@ pub fn is_font(bytes: &[u8]) -> bool {
         }
         _ => false,
     }
+}
+
+/// A font whose tables are compressed.
+pub fn is_compressed(bytes: &[u8]) -> bool {
+    bytes.starts_with(b"wOFF") || bytes.starts_with(b"wOF2")
+}
+
+/// A table laid out for a rule.
+pub fn is_laid_out(bytes: &[u8]) -> bool {
+    bytes.starts_with(&MARK) && bytes.len() >= PREAMBLE
 }
 
 /// A manifest of at least one rule.

@@ -51,6 +51,7 @@ fn main() -> ExitCode {
     if words.first().map_or(false, |name| name == "bench") {
         return bench(&words[1..]);
     }
+    let unread = unread(&words);
     let mut out = BufWriter::new(io::stdout().lock());
     let answer = command(words, &mut out).and_then(|outcome| {
         out.flush()?;
@@ -59,13 +60,23 @@ fn main() -> ExitCode {
     match answer {
         Ok(Outcome::Good) => ExitCode::SUCCESS,
         Ok(Outcome::Bad) => ExitCode::from(1),
-        Err(Failure::Output(error)) if error.kind() == ErrorKind::BrokenPipe => ExitCode::SUCCESS,
+        Err(Failure::Output(error)) if error.kind() == ErrorKind::BrokenPipe => unread,
         Err(failure) => {
             // What was printed before goes first, if it can be written.
             let _ = out.flush();
             aside::tell(&failure.to_string());
             ExitCode::from(failure.status())
         }
+    }
+}
+
+/// The exit status where the reader of the output has gone away. Text that was cut at
+/// will is no error; of a verdict or a pack, nothing good is said that was not found.
+fn unread(words: &[OsString]) -> ExitCode {
+    let name = words.first().map(|name| name.to_string_lossy());
+    match name.as_deref() {
+        Some("check" | "run" | "pack") => ExitCode::from(2),
+        _ => ExitCode::SUCCESS,
     }
 }
 

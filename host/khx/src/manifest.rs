@@ -9,6 +9,9 @@ use crate::files;
 /// The most bytes of a manifest.
 const MANIFEST_MAX: usize = 1_000_000;
 
+/// What some editors write before a text.
+const BYTE_ORDER_MARK: &[u8] = b"\xEF\xBB\xBF";
+
 /// A rule's line, and its number in the file.
 #[derive(Debug, PartialEq)]
 pub struct Line {
@@ -33,6 +36,7 @@ pub fn rules(manifest: &OsStr, text: &[u8]) -> Result<Vec<Line>, Failure> {
         Some(folder) if folder != Path::new("") => folder,
         _ => Path::new("."),
     };
+    let text = text.strip_prefix(BYTE_ORDER_MARK).unwrap_or(text);
     lines(&String::from_utf8_lossy(text), folder).map_err(|(number, message)| {
         let name = files::name(manifest);
         Failure::File(format!("{name}:{number}: {message}"))
@@ -105,6 +109,12 @@ mod tests {
                 rule(5, 65_535, 0, "rules/../c.rex")
             ])
         );
+    }
+
+    #[test]
+    fn a_byte_order_mark_is_passed_over() {
+        let read = rules(OsStr::new("rules.txt"), b"\xEF\xBB\xBF7 2 m1.rex\n").unwrap();
+        assert_eq!(read[0].tag, 7);
     }
 
     #[test]

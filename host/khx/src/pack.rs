@@ -52,7 +52,10 @@ fn packed(manifest: &OsStr, target: Option<&OsStr>) -> Result<Vec<u8>, Failure> 
         let other = || hints::for_manifest((manifest, &text));
         failure.hinted(exchanged().or_else(other))
     })?;
-    let body = |line: &Line| files::read(line.file.as_os_str(), PROGRAM_MAX);
+    let body = |line: &Line| {
+        let place = format!("{}:{}", files::name(manifest), line.number);
+        files::read(line.file.as_os_str(), PROGRAM_MAX).map_err(|failure| failure.at(&place))
+    };
     let bodies = lines.iter().map(body).collect::<Result<Vec<_>, _>>()?;
     let rules: Vec<Rule> = lines.iter().zip(&bodies).map(rule).collect();
     let mut hints = lines.iter().zip(&bodies).map(hint);

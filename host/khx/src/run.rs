@@ -3,13 +3,13 @@
 use std::io::Write;
 
 use khalixoshi::tables::{tests_mark, Facts, Lending, Next, Preamble, Verdict, Why, BUDGET};
-use khalixoshi::{Status, CELLS_MAX, PROGRAM_MAX};
+use khalixoshi::{depths, Status, CELLS_MAX, PROGRAM_MAX};
 
 use crate::args::Args;
 use crate::failure::{Failure, Outcome};
 use crate::machine::{self, Machine};
 use crate::table::{self, Table};
-use crate::{aside, files, hints, words};
+use crate::{aside, explain, files, hints, words};
 
 pub const HELP: &str = "\
 khx run: runs a program over a font table, and says its verdict.
@@ -57,9 +57,12 @@ pub fn main(mut args: Args, out: &mut dyn Write) -> Result<Outcome, Failure> {
     }
     let program = files::read(&program_file, PROGRAM_MAX)?;
     let table = table::read(&table_file)?;
-    let hint = hints::for_run((&program_file, &program), (&table_file, table.plain()));
+    let hint = hints::for_run((&program_file, &program), (&table_file, table.plain()))
+        .or_else(|| wanted.hint(&program, cells as usize, &table));
     match wanted.answered(program, cells as usize, table, out) {
         Ok(outcome) => {
+            // The verdict first, if anybody reads it.
+            out.flush()?;
             aside::hint(hint);
             Ok(outcome)
         }
@@ -68,7 +71,25 @@ pub fn main(mut args: Args, out: &mut dyn Write) -> Result<Outcome, Failure> {
 }
 
 impl Wanted {
-    /// A rule that tests the mark is run over a table laid out alone.
+    /// Whether a verdict is due: where it is asked for, and of a rule that tests the mark.
+    fn judges(&self, program: &[u8]) -> bool {
+        self.verdict_alone || tests_mark(program)
+    }
+
+    /// Why there can be no verdict, and what to do about it.
+    fn hint(&self, program: &[u8], cells: usize, table: &Table) -> Option<String> {
+        match table {
+            Table::LaidOut(..) => depths(program, cells)
+                .err()
+                .map(|refused| explain::in_one_line(program, cells, refused)),
+            Table::Plain(_) if self.judges(program) => {
+                Some("TABLE is not laid out: tools/lend FONT TABLE writes it".to_string())
+            }
+            Table::Plain(_) => None,
+        }
+    }
+
+    /// A rule that judges is run over a table laid out alone.
     fn answered(
         &self,
         program: Vec<u8>,
@@ -76,7 +97,7 @@ impl Wanted {
         table: Table,
         out: &mut dyn Write,
     ) -> Result<Outcome, Failure> {
-        let judges = self.verdict_alone || tests_mark(&program);
+        let judges = self.judges(&program);
         let mut machine = Machine::new(program, cells);
         match table {
             Table::LaidOut(facts, table) => {

@@ -291,7 +291,8 @@ fn pack_refused_at_a_line() {
     let many: String = (0..66).map(|tag| format!("{tag} 0 m1.rex\n")).collect();
     fails(&many, 1, "rules.txt:65: refused 30: ");
     fails("7 2 m1.rex\n8 m1.rex\n", 2, "rules.txt:2: TAG CELLS FILE");
-    fails("7 2 none.rex\n", 2, "none.rex: ");
+    fails("\n7 2 none.rex\n", 2, "rules.txt:2: ");
+    fails("\n7 2 none.rex\n", 2, "none.rex: No such file");
     let long = format!("7 2 m1.rex\n#{}\n", " ".repeat(1_000_000));
     fails(&long, 2, "rules.txt: over 1000000 bytes");
 }
@@ -343,6 +344,29 @@ fn a_closed_pipe() {
     let output = child.wait_with_output().unwrap();
     assert_eq!(String::from_utf8_lossy(&output.stderr), "");
     assert_eq!(output.status.code(), Some(0));
+}
+
+/// Text that nobody reads on is no error; but what was refused is not good because
+/// nobody read it, and a pack that nobody took is not written.
+#[test]
+fn a_verdict_that_nobody_reads() {
+    let unread = |words: &[&str]| {
+        let mut reader = started(&["conform"]);
+        let pipe = reader.stdin.take().unwrap();
+        reader.kill().unwrap();
+        reader.wait().unwrap();
+        let output = command(words).stdout(pipe).output().unwrap();
+        assert_eq!(String::from_utf8_lossy(&output.stderr), "");
+        output.status.code()
+    };
+    let m1 = file("unread/m1.rex", &M1);
+    let manifest = file("unread/rules.txt", b"7 2 m1.rex\n");
+    let pack = file("unread/rules.pack", &PACK);
+    assert_eq!(unread(&["run", &m1, "/dev/null", "--verdict"]), Some(2));
+    assert_eq!(unread(&["check", &pack]), Some(2));
+    assert_eq!(unread(&["pack", &manifest]), Some(2));
+    assert_eq!(unread(&["list", &m1]), Some(0));
+    assert_eq!(unread(&["--help"]), Some(0));
 }
 
 #[test]

@@ -165,6 +165,13 @@ fn checked_for_a_pack() {
     );
     let lend = "is a font: tools/lend FILE TABLE writes one table's data";
     hints("font.ttf", &font(b"OTTO"), lend);
+    let compressed =
+        "is a WOFF font: unpack it to a plain one, of which tools/lend writes one table's data";
+    hints("font.woff", b"wOFF\0\x01\0\0", compressed);
+    hints("font.woff2", &b"wOF2".repeat(10_000), compressed);
+    let mut lending = Lending::new(&[0; 54], &Facts::default(), BUDGET).unwrap();
+    let laid_out = "is a table laid out: khx run PROGRAM FILE runs a rule over it";
+    hints("head.data", lending.data(), laid_out);
 }
 
 #[test]

@@ -69,12 +69,6 @@ fn no_verdict() {
     let fault = "status faulted 6 at 0000: a data range: p + w, as a whole number, is over the \
                  data's length\nsteps 0\ndepth 0\nstack -\n";
     none("empty", SEVEN, &[], fault, "fault 6 at 0000");
-    let refused = "the rule is refused by 5 at 0000";
-    none("cells", SEVEN, &["--cells", "0"], "", refused);
-    let over = "the rule is refused by 22";
-    none("many", SEVEN, &["--cells", "1025"], "", over);
-    let long = vec![0; 16_385];
-    none("long", &long, &[], "", "the rule is refused by 20");
     let status = "status running at 0000: the budget is used\nsteps 20000000\ndepth 0\nstack -\n";
     none("idle", &[0x3C, 0x00], &[], status, "the budget is used");
     let two = "status halted at 0002\nsteps 3\ndepth 2\nstack 0001 0001\n";
@@ -83,6 +77,30 @@ fn no_verdict() {
     let status = "status halted at 0014\nsteps 14\ndepth 1\nstack 0000\n";
     let why = "it asks for bytes from 65535 on, and the table has 0";
     none("outside", LAST, &[], status, why);
+}
+
+/// The verdict has the number, and a hint beside it what the number means.
+#[test]
+fn a_rule_that_is_refused() {
+    let table = laid_out("unverified/table", &[7]);
+    let refused = |name: &str, rule: &[u8], cells: &str, why: &str, hint: &str| {
+        let rule = file(&format!("unverified/{name}.rex"), rule);
+        for words in [&[][..], &["--verdict"]] {
+            let output = khx(&[&["run", &rule, &table, "--cells", cells], words].concat());
+            let line = format!("no verdict: the rule is refused by {why}\n");
+            assert_eq!(String::from_utf8_lossy(&output.stdout), line);
+            let error = String::from_utf8_lossy(&output.stderr);
+            assert_eq!(error, format!("khx: hint: refused {hint}\n"));
+            assert_eq!(output.status.code(), Some(1));
+        }
+    };
+    let few = "5 at 0000: depth less taken plus pushed exceeds the cells (it comes with 0 values, \
+               takes 0 and pushes 1: that needs 1 cell (given: 0); with 1 it is accepted)";
+    refused("cells", SEVEN, "0", "5 at 0000", few);
+    let over = "22: the stack is over 1,024 cells";
+    refused("many", SEVEN, "1025", "22", over);
+    let long = "20: the program is over 16,384 bytes";
+    refused("long", &[0; 16_385], "1", "20", long);
 }
 
 /// The bytes lent count, in the first run too.
@@ -128,32 +146,40 @@ fn bytes_asked_for() {
     assert_prints(&khx(&["run", &rule, &bad, "--verdict"]), 1, "refused 9\n");
 }
 
+/// There is no verdict, the status tells, and a hint says what to do.
+fn assert_not_laid_out(words: &[&str]) {
+    let output = khx(words);
+    let none = "no verdict: the data does not begin with the mark\n";
+    assert_eq!(String::from_utf8_lossy(&output.stdout), none, "{words:?}");
+    let hint = "khx: hint: TABLE is not laid out: tools/lend FONT TABLE writes it\n";
+    assert_eq!(String::from_utf8_lossy(&output.stderr), hint, "{words:?}");
+    assert_eq!(output.status.code(), Some(1), "{words:?}");
+}
+
 /// A table as it stands in the font is run over as it stands, and has no verdict.
 #[test]
 fn without_the_mark() {
     let one = file("unmarked/one.rex", &[0x81, 0x00]);
     let raw = file("unmarked/table", &[7; 200]);
-    let none = "no verdict: the data does not begin with the mark\n";
-    assert_prints(&khx(&["run", &one, &raw, "--verdict"]), 1, none);
-    assert_prints(&khx(&["run", &one, "/dev/zero", "--verdict"]), 1, none);
-    assert_prints(&khx(&["run", &one, "/dev/null", "--verdict"]), 1, none);
+    for table in [&raw, "/dev/zero", "/dev/null"] {
+        assert_not_laid_out(&["run", &one, table, "--verdict"]);
+    }
     let text = "status halted at 0001\nsteps 2\ndepth 1\nstack 0001\n";
     assert_prints(&khx(&["run", &one, &raw]), 0, text);
 }
 
-/// A rule that keeps the convention says nothing of bare bytes, and the status tells,
-/// whether the verdict is asked for or not.
+/// A rule that keeps the convention says nothing of bare bytes, whether the verdict is
+/// asked for or not.
 #[test]
 fn a_shipped_rule_without_the_mark() {
-    let none = "no verdict: the data does not begin with the mark\n";
     let raw = file("unmarked/raw", &[1; 200]);
     for name in [
         "head", "maxp", "hhea", "hmtx", "os2", "post", "cmap", "loca",
     ] {
         let rule = format!("{ROOT}/examples/rules/{name}.rex");
-        assert_prints(&khx(&["run", &rule, &raw]), 1, none);
-        assert_prints(&khx(&["run", &rule, &raw, "--trace"]), 1, none);
-        assert_prints(&khx(&["run", &rule, "/dev/null", "--verdict"]), 1, none);
+        assert_not_laid_out(&["run", &rule, &raw]);
+        assert_not_laid_out(&["run", &rule, &raw, "--trace"]);
+        assert_not_laid_out(&["run", &rule, "/dev/null", "--verdict"]);
     }
 }
 
