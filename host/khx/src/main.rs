@@ -51,6 +51,7 @@ fn main() -> ExitCode {
     if words.first().map_or(false, |name| name == "bench") {
         return bench(&words[1..]);
     }
+    let untaken = untaken(&words);
     let mut out = BufWriter::new(io::stdout().lock());
     let answer = command(words, &mut out).and_then(|outcome| {
         out.flush()?;
@@ -59,7 +60,7 @@ fn main() -> ExitCode {
     match answer {
         Ok(Outcome::Good) => ExitCode::SUCCESS,
         Ok(Outcome::Bad) => ExitCode::from(1),
-        Err(Failure::Output(error)) if error.kind() == ErrorKind::BrokenPipe => ExitCode::SUCCESS,
+        Err(Failure::Output(error)) if error.kind() == ErrorKind::BrokenPipe => untaken,
         Err(failure) => {
             // What was printed before goes first, if it can be written.
             let _ = out.flush();
@@ -67,6 +68,13 @@ fn main() -> ExitCode {
             ExitCode::from(failure.status())
         }
     }
+}
+
+/// How a command ends quietly whose reader went away: a verdict that nobody took is not
+/// told as good.
+fn untaken(words: &[OsString]) -> ExitCode {
+    let judges = |name: &OsString| name == "check" || name == "run";
+    ExitCode::from(u8::from(words.first().map_or(false, judges)))
 }
 
 fn command(mut words: Vec<OsString>, out: &mut dyn Write) -> Result<Outcome, Failure> {
@@ -86,12 +94,12 @@ fn command(mut words: Vec<OsString>, out: &mut dyn Write) -> Result<Outcome, Fai
             return Err(Failure::usage(message));
         }
     };
-    let mut args = Args::new(&name, words);
-    if args.flag("--help") || args.flag("-h") {
+    // Alone: beside other words it may be the name of a file to judge.
+    if matches!(words.as_slice(), [word] if word == "--help" || word == "-h") {
         out.write_all(help.as_bytes())?;
         return Ok(Outcome::Good);
     }
-    main(args, out)
+    main(Args::new(&name, words), out)
 }
 
 /// The benchmark prints as it goes, and has its own exit status.

@@ -345,6 +345,40 @@ fn a_closed_pipe() {
     assert_eq!(output.status.code(), Some(0));
 }
 
+/// A verdict that nobody reads is never told as good.
+#[test]
+fn a_verdict_into_a_closed_pipe() {
+    let halts = file("closed/halts.rex", &[0x81, 0x00]);
+    let never_ends = file("closed/never_ends.rex", &[0x3C, 0x00]);
+    for (words, input) in [
+        (&["check", "-"][..], &PACK[..12]),
+        (&["run", &halts, "-", "--verdict"], &[7]),
+        (&["run", &never_ends, "-"], &[7]),
+        (&["run", &never_ends, "-", "--trace"], &[7]),
+    ] {
+        let mut child = started(words);
+        drop(child.stdout.take());
+        child.stdin.take().unwrap().write_all(input).unwrap();
+        let output = child.wait_with_output().unwrap();
+        assert_eq!(String::from_utf8_lossy(&output.stderr), "", "{words:?}");
+        assert_eq!(output.status.code(), Some(1), "{words:?}");
+    }
+}
+
+/// A table whose file is named as the option for help is not told as good.
+#[test]
+fn help_beside_other_words() {
+    let halts = file("helped/halts.rex", &[0x81, 0x00]);
+    for option in ["-h", "--help"] {
+        let output = khx(&["run", &halts, option, "--verdict"]);
+        assert_fails(
+            &output,
+            2,
+            &format!("run: there is no option {option}: see khx run --help"),
+        );
+    }
+}
+
 #[test]
 fn an_output_that_takes_nothing() {
     let m1 = file("full/m1.rex", &M1);
