@@ -2,9 +2,10 @@
 import re
 from typing import NamedTuple
 
-FENCE = re.compile(r"( *)(`{3,}|~{3,})(.*)")
-LISTED = re.compile(r"(?:[-*+]|[0-9]+[.)]) ")
-INDENT = "    "
+FENCE = re.compile(r"([ \t]*)(`{3,}|~{3,})(.*)")
+UNSEEN = re.compile(r".*(?:`{3}|~{3}|<pre\b).*", re.IGNORECASE)
+LISTED = re.compile(r" *(?:[-*+]|[0-9]+[.)]) +")
+INDENT = 4
 
 
 class Fault(Exception):
@@ -49,7 +50,9 @@ def fenced(lines):
             yield opened
             opened = None
         elif opened:
-            opened.lines.append(line[min(indent, len(line) - len(line.lstrip(" "))):])
+            opened.lines.append(line[min(indent, len(line) - len(line.lstrip(" \t"))):])
+        elif not fence and UNSEEN.fullmatch(line):
+            raise Fault(number, "a block is fenced with three backquotes, and nothing but blanks before them")
         elif fence:
             opened, indent = Fenced(number, fence[3].split(), []), len(fence[1])
     if opened:
@@ -57,13 +60,14 @@ def fenced(lines):
 
 
 def indented(lines):
-    """The lines that stand four blanks or more to the right, behind an empty line, and not in a list."""
-    code, listed, empty = False, False, True
-    for number, line in enumerate(lines, 1):
-        if line.startswith((INDENT, "\t")) and line.strip() and (code or empty) and not listed:
+    """The lines that stand four blanks or more to the right of the text, in a list of the item's text, and do not go on with a paragraph."""
+    code, item, ended = False, 0, True
+    for number, line in enumerate((line.expandtabs(INDENT) for line in lines), 1):
+        indent, listed = len(line) - len(line.lstrip(" ")), LISTED.match(line)
+        if line.strip() and indent >= item + INDENT and (code or ended):
             code = True
             yield Indented(number, line.strip())
         elif line.strip():
             code = False
-            listed = bool(LISTED.match(line)) or (listed and line.startswith(" "))
-        empty = not line.strip()
+            item = listed.end() if listed else item if indent else 0
+        ended = not line.strip() or line.startswith("#") or bool(FENCE.fullmatch(line))

@@ -73,6 +73,13 @@ class Lend(unittest.TestCase):
         self.refusal("-o", output, self.font, "head")
         self.assertEqual(output.read_bytes(), b"kept")
 
+    def test_the_font_is_not_written_over(self):
+        link = self.folder / "link"
+        link.symlink_to(self.font)
+        for output in (self.font, link):
+            self.assertEqual(self.refusal("-o", output, self.font, "head"), f"lend: {output}: it is the font: name another file with -o")
+        self.assertEqual(self.font.read_bytes(), font(TABLES))
+
     def test_a_face_of_a_collection(self):
         self.font.write_bytes(collection([TABLES, {"maxp": b"\0\0\x50\0\0\7"}]))
         self.assertEqual(self.written("--raw", self.font, "maxp", "0"), TABLES["maxp"])

@@ -198,6 +198,14 @@ class Blocks(Pages):
         self.fails("~~~console\n$ true\n~~~\n", 1, "three backquotes")
         self.fails("````console\n$ true\n````\n", 1, "three backquotes")
 
+    def test_blocks_in_other_forms(self):
+        for before in ("> ", "- ", "1. ", "\u00a0"):
+            self.fails("x\n\n" + "".join(f"{before}{line}\n" for line in (f"{FENCE}console", "$ false", FENCE)), 3, "nothing but blanks before them")
+        for line in ("<pre>", "x <PRE class=y>"):
+            self.fails(f"x\n\n{line}\n$ false\n</pre>\n", 3, "nothing but blanks before them")
+        self.fails(f"- a\n\n\t{FENCE}console\n\t$ false\n\t{FENCE}\n", 4, "exit status 1")
+        self.passes(f"- a\n\n\t{FENCE}console\n\t$ printf '<pre>\\n- %s\\n' '{FENCE}'\n\t<pre>\n\t- {FENCE}\n\t{FENCE}\n", 1, 1)
+
     def test_a_block_in_a_list(self):
         self.passes("- a\n\n  " + block("console", "$ printf 'a\\n  b\\n'\n  a\n    b\n").replace(FENCE, "  " + FENCE).lstrip().replace("\n$", "\n  $"), 1, 1)
 
@@ -215,6 +223,10 @@ class Commands(Pages):
         for command in ("make all", "make soak", "make fuzz SECONDS=9 X=1", "rm x"):
             self.fails(f"x\n\n    make run\n    {command}   # x\n", 4, f"{command}: it is not known where this is run")
         self.fails("x\n\n\tmake all\n", 3, "make all: it is not known", "docs/GUIDE.md")
+
+    def test_an_indented_block_in_every_place(self):
+        for before, line in (("# A\n", 2), ("- a\n\n  ", 3), ("1. a\n\n   ", 3), ("- a\n  - b\n\n    ", 4), ("x\n\n  \t", 3), (block("console", "$ true\n"), 4)):
+            self.fails(f"{before}    make all\n", line, "make all: it is not known")
 
     def test_a_step_that_the_gate_has_no_more(self):
         self.fails("\n    make c-example\n", 2, "but .ci/run has no line")

@@ -23,10 +23,10 @@ pub fn warning(program: &[u8], cells: usize) -> Option<String> {
             ))
         }
         Err(_) => {
-            let place = told(program, &named(program))?;
-            Some(format!(
-                "the listing may hide what runs: a jump or a call leads to {place}"
-            ))
+            let place = told(program, &named(program));
+            let named = place.map(|place| format!("a jump or a call leads to {place}"));
+            let why = named.or_else(|| unnamed(program))?;
+            Some(format!("the listing may hide what runs: {why}"))
         }
     }
 }
@@ -46,6 +46,16 @@ fn named(program: &[u8]) -> Vec<Hidden> {
     targets.sort_unstable();
     targets.dedup();
     hidden(program, targets)
+}
+
+/// What a program that is not accepted may meet inside the bytes of a line though none
+/// names it: a jump or a call goes to where the stack says.
+fn unnamed(program: &[u8]) -> Option<String> {
+    let by_stack = |at: &usize| matches!(program[*at], 0x05..=0x08);
+    let at = lines::addresses(program, 0).find(by_stack)?;
+    let has_insides = lines::addresses(program, 0).count() < program.len();
+    let text = lines::text_at(program, at)?;
+    has_insides.then(|| format!("{at:04X} ({text}) leads to where the stack says"))
 }
 
 /// The first of some hidden addresses, and how many more there are.

@@ -97,12 +97,12 @@ fn command(mut words: Vec<OsString>, out: &mut dyn Write) -> Result<Outcome, Fai
             return Err(Failure::usage(message));
         }
     };
-    let mut args = Args::new(&name, words);
-    if args.flag("--help") || args.flag("-h") {
+    // Alone: beside other words it may be the name of a file to judge.
+    if matches!(words.as_slice(), [word] if word == "--help" || word == "-h") {
         out.write_all(help.as_bytes())?;
         return Ok(Outcome::Good);
     }
-    main(args, out)
+    main(Args::new(&name, words), out)
 }
 
 /// The benchmark prints as it goes, and has its own exit status.

@@ -369,6 +369,20 @@ fn a_verdict_that_nobody_reads() {
     assert_eq!(unread(&["--help"]), Some(0));
 }
 
+/// A table whose file is named as the option for help is not told as good.
+#[test]
+fn help_beside_other_words() {
+    let halts = file("helped/halts.rex", &[0x81, 0x00]);
+    for option in ["-h", "--help"] {
+        let output = khx(&["run", &halts, option, "--verdict"]);
+        assert_fails(
+            &output,
+            2,
+            &format!("run: there is no option {option}: see khx run --help"),
+        );
+    }
+}
+
 #[test]
 fn an_output_that_takes_nothing() {
     let m1 = file("full/m1.rex", &M1);
