@@ -1,7 +1,7 @@
 //! The convention between host and rule: what is lent, byte for byte, what is lent
 //! again, every verdict, and that no table comes through by accident.
 
-use khalixoshi::pack::{body, build, entries, Rule};
+use khalixoshi::pack::{body, build, entries, find, Rule};
 use khalixoshi::tables::{
     judge, judge_by, tests_mark, Facts, Lending, Next, Preamble, Verdict, Why, BUDGET, MARK, PIECE,
     PREAMBLE,
@@ -129,6 +129,7 @@ fn numbers_of_the_rules() {
         ("piece", PIECE),
         ("budget", BUDGET as usize),
         ("unmarked", 63),
+        ("unkept", 62),
     ];
     assert_eq!(numbers(), ours);
 }
@@ -172,6 +173,78 @@ fn every_shipped_rule_tests_the_mark() {
     assert!(!tests_mark(EACH_BYTE));
 }
 
+/// A host that lends fewer bytes than it tells has no verdict by any shipped rule.
+#[test]
+fn fewer_bytes_than_are_told() {
+    for entry in entries(SHIPPED).unwrap() {
+        for lent in [1, 6, 32, 36, 54, 100, PIECE] {
+            let told = Preamble {
+                length: lent as u32,
+                lent: lent as u16,
+                facts: FACTS,
+                ..Preamble::default()
+            };
+            let mut data = told.bytes().to_vec();
+            data.resize(PREAMBLE + lent - 1, 0);
+            let mut cells = vec![0; entry.cells.into()];
+            let ran = State::fresh().run(body(SHIPPED, &entry), &mut data, &mut cells, 100);
+            let status = ran.unwrap().state.status;
+            assert_eq!(status, Status::Faulted(Fault(6)), "{}", entry.tag);
+        }
+    }
+}
+
+/// What a shipped rule says in a run that a host lays out wrong.
+fn said_of(tag: u16, told: Preamble, lent: &[u8]) -> u16 {
+    let entry = find(SHIPPED, tag).unwrap();
+    let mut data = told.bytes().to_vec();
+    data.extend(lent);
+    let mut cells = vec![0; entry.cells.into()];
+    let ran = State::fresh().run(body(SHIPPED, &entry), &mut data, &mut cells, BUDGET);
+    assert_eq!(ran.unwrap().state.status, Status::Halted);
+    cells[cells.len() - 1]
+}
+
+/// A host that does not keep `own` lends a far subtable, and cmap would take it for the
+/// table's beginning: version 0, no records.
+#[test]
+fn a_cmap_whose_own_bytes_are_not_kept() {
+    for start in [4, 66_000, 0x1_0000] {
+        let later = Preamble {
+            length: 140_000,
+            start,
+            lent: 10,
+            ..Preamble::default()
+        };
+        assert_eq!(said_of(7, later, &[0; 10]), 62);
+    }
+}
+
+/// A host that does not keep `own`, or leaves what another table left there, would make
+/// loca believe that no offset is left to look at.
+#[test]
+fn a_loca_whose_own_bytes_are_not_right() {
+    let facts = Facts {
+        glyphs: 1,
+        loca_format: 0,
+        ..FACTS
+    };
+    let falls = [0, 9, 0, 1];
+    let first = Preamble {
+        length: 4,
+        lent: 4,
+        facts,
+        ..Preamble::default()
+    };
+    assert_eq!(said_of(8, first, &falls), 4);
+    let mut own = [0; 32];
+    own[0] = 2;
+    assert_eq!(said_of(8, Preamble { own, ..first }, &falls), 62);
+    for start in [2, 0x1_0000] {
+        assert_eq!(said_of(8, Preamble { start, ..first }, &falls), 62);
+    }
+}
+
 /// The C host defines the same numbers: AT_OWN is `own`, BUDGET `budget`.
 #[test]
 fn numbers_of_the_c_host() {
@@ -186,7 +259,7 @@ fn numbers_of_the_c_host() {
         .collect();
     let told: Vec<(String, usize)> = numbers()
         .into_iter()
-        .filter(|(name, _)| *name != "unmarked")
+        .filter(|(name, _)| !["unmarked", "unkept"].contains(name))
         .map(|(name, value)| (name.to_string(), value))
         .collect();
     assert_eq!(defined, told);
