@@ -220,6 +220,31 @@ fn a_cmap_whose_own_bytes_are_not_kept() {
     }
 }
 
+/// A host that leaves what another table left, or lends other bytes than it was asked
+/// for, would make cmap look for a record of that table.
+#[test]
+fn a_cmap_whose_own_bytes_are_of_another_table() {
+    let mut own = [0; 32];
+    own[0] = 1; // left
+    own[2] = 4; // record
+    own[6] = 10; // needed
+    own[8..12].copy_from_slice(&70_000_u32.to_le_bytes()); // place
+    let asked = Preamble {
+        length: 80_000,
+        start: 70_000,
+        lent: 10,
+        own,
+        ..Preamble::default()
+    };
+    let subtable = [0, 6, 0, 10, 0, 0, 0, 0, 0, 0];
+    assert_ne!(said_of(7, asked, &subtable), 62);
+    for start in [0, 4, 70_000 - 1, 70_000 + 0x1_0000] {
+        assert_eq!(said_of(7, Preamble { start, ..asked }, &subtable), 62);
+    }
+    let more = Preamble { lent: 11, ..asked };
+    assert_eq!(said_of(7, more, &[0; 11]), 62);
+}
+
 /// A host that does not keep `own`, or leaves what another table left there, would make
 /// loca believe that no offset is left to look at.
 #[test]
