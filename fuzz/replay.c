@@ -81,7 +81,10 @@ static bool load(seed *one, const char *name)
         return false;
     }
     one->length = fread(one->bytes, 1, LENGTH_MAX, file);
-    return fclose(file) == 0;
+    bool whole = !ferror(file) && fgetc(file) == EOF;
+    if (!whole)
+        fprintf(stderr, "%s: no file of at most %d bytes\n", name, LENGTH_MAX);
+    return fclose(file) == 0 && whole;
 }
 
 static void insert(size_t at)

@@ -7,6 +7,7 @@
 //! alone, 1 for refused and no verdict, 2 for bad usage or a file that cannot be read.
 
 use std::ffi::OsString;
+use std::io::{self, Write};
 use std::process::ExitCode;
 use std::str::FromStr;
 use std::{env, fs};
@@ -19,8 +20,12 @@ fn main() -> ExitCode {
     let words: Vec<OsString> = env::args_os().skip(1).collect();
     match judged(&words) {
         Ok(verdict) => {
-            println!("{verdict}");
-            ExitCode::from(if verdict.is_good() { 0 } else { 1 })
+            let told = writeln!(io::stdout(), "{verdict}").is_ok();
+            ExitCode::from(match verdict.is_good() {
+                true if told => 0,
+                true => 2,
+                false => 1,
+            })
         }
         Err(why) => {
             eprintln!("judge: {why}");
@@ -53,6 +58,10 @@ fn contents(file: &OsString) -> Result<Vec<u8>, String> {
 }
 
 fn number<N: FromStr>(word: &OsString) -> Result<N, String> {
-    let number = word.to_str().and_then(|word| word.parse().ok());
+    let digits = |word: &&str| word.bytes().all(|byte| byte.is_ascii_digit());
+    let number = word
+        .to_str()
+        .filter(digits)
+        .and_then(|word| word.parse().ok());
     number.ok_or_else(|| format!("no number that fits: {}", word.to_string_lossy()))
 }

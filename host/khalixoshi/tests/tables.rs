@@ -594,7 +594,7 @@ fn garbage_is_not_good_by_the_shipped_rules() {
     assert_eq!(verdict, Verdict::Refused(2));
 }
 
-/// Any bytes as a pack, and the shipped one with any byte altered.
+/// Any bytes as a pack, and the shipped one with any byte of its contents altered.
 #[test]
 fn broken_packs() {
     let mut chance = Chance(2);
@@ -602,9 +602,11 @@ fn broken_packs() {
         let pack = chance.bytes(length);
         assert!(!judge(&pack, 1, b"abc", &FACTS).is_good());
     }
-    for at in 0..SHIPPED.len() {
+    for at in 0..2 + 8 * entries(SHIPPED).unwrap().len() {
         let mut pack = SHIPPED.to_vec();
         pack[at] ^= 1 + chance.next() as u8 % 255;
-        let _ = judge(&pack, 1, b"abc", &FACTS);
+        for tag in 0..10 {
+            assert!(!judge(&pack, tag, b"abc", &FACTS).is_good(), "{tag} {at}");
+        }
     }
 }
