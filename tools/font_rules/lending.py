@@ -1,21 +1,16 @@
 """A table as the data memories that a rule is run on: examples/README.md says how. The numbers are those that
 examples/rules/preamble.txt gives the rules."""
 import pathlib
-import re
 import struct
+
+import assembly
 
 PREAMBLE = pathlib.Path(__file__).resolve().parent.parent.parent / "examples" / "rules" / "preamble.txt"
 MARK = b"KHX1"
 OWN_BYTES = 32
 FOUR_BYTES = ("length", "start", "outlines", "next_start")      # all other numbers have two
 
-
-def named_numbers(source):
-    """The names that a source gives to numbers; names for sums are left out."""
-    return {name: int(value) for name, value in re.findall(r"^(\w+)\s*=\s*(\d+)\s*(?:#.*)?$", source, re.MULTILINE)}
-
-
-AT = named_numbers(PREAMBLE.read_text(encoding="utf-8"))
+AT = assembly.names(PREAMBLE)
 PIECE = AT["piece"]             # the most bytes of a table that are lent at a time
 BUDGET = AT["budget"]           # for a table, all runs together: each byte lent counts one, and each step
 UNMARKED = AT["unmarked"]       # the reason of a rule whose data does not begin with the mark

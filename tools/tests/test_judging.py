@@ -97,11 +97,5 @@ class Answers(unittest.TestCase):
                 ending.answer(b"# two")
 
 
-class Numbers(unittest.TestCase):
-    def test_names_of_numbers(self):
-        source = "# a = 1\nlent = 12   # how many\nown=32\nsum = own+2\nhigh = $FF\n  ne--imm8 7\npiece = 65468\nlabel:\n"
-        self.assertEqual(lending.named_numbers(source), {"lent": 12, "own": 32, "piece": 65_468})
-
-
 if __name__ == "__main__":
     unittest.main()

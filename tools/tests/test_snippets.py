@@ -162,7 +162,7 @@ class Files(Pages):
         self.fails(block("file examples", "a\n"), 1, "not what examples is")
 
     def test_nothing_is_written_into_the_repository(self):
-        for name in ("examples/new.txt", "../new.txt", "/tmp/new.txt", "./a.txt", "new/../examples/new.txt"):
+        for name in ("examples/new.txt", "../new.txt", "/new.txt", "./a.txt", "new/../examples/new.txt"):
             self.fails(block(f"file {name}", "a\n"), 1, name)
         self.assertFalse((self.top / "examples/new.txt").exists())
 

@@ -111,6 +111,7 @@ impl Asked {
             (false, true) => None,
         }
     }
+
     /// The listing, or why the program or the pack is refused.
     fn listed(&self, bytes: &[u8]) -> Result<Listed, String> {
         let mut listed = Listed {
