@@ -16,6 +16,7 @@ typedef enum kind {
     RAN,
     FAULTED,
     STOPPED_ON,
+    COPIED,
     VERIFIED,
     REFUSED_ON,
     MET,

@@ -1,18 +1,10 @@
 /* Promises of khx_run and khx_step, from any state. */
-#include "khalixoshi.h"
-#include "lent.h"
 #include "promise.h"
 #include "runs.h"
 #include "tries.h"
 
 /* A step may copy as many bytes as the data has; a run may copy so many in all. */
 enum { WORK = 1 << 21 };
-
-typedef struct machine {
-    lent program;
-    lent data;
-    lent cells;
-} machine;
 
 static machine take_machine(input *from)
 {
@@ -32,18 +24,18 @@ static machine twin(input *from, const machine *one)
     return other;
 }
 
-static size_t cells_count(const machine *one)
+size_t cells_count(const machine *one)
 {
     return one->cells.size / 2;
 }
 
-static void promise_memories_kept(const machine *one)
+void promise_memories_kept(const machine *one)
 {
     promise_kept(&one->data);
     promise_kept(&one->cells);
 }
 
-static khx_ran run(const machine *one, khx_state state, uint32_t budget)
+khx_ran run(const machine *one, khx_state state, uint32_t budget)
 {
     khx_ran ran = khx_run(state, one->program.bytes, one->program.size, one->data.bytes, one->data.size,
                           cells_of(&one->cells), cells_count(one), budget);
@@ -85,12 +77,12 @@ static khx_state handed_back(khx_state state)
     return state;
 }
 
-static bool same_state(khx_state one, khx_state other)
+bool same_state(khx_state one, khx_state other)
 {
     return one.address == other.address && one.depth == other.depth && one.status == other.status && one.fault == other.fault;
 }
 
-static size_t refusal_of(const machine *one, khx_state state)
+size_t refusal_of(const machine *one, khx_state state)
 {
     if (one->program.size > KHX_PROGRAM_MAX)
         return KHX_PROGRAM_SIZE;

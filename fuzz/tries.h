@@ -17,4 +17,7 @@ void try_pack_find(input *from);
 void try_pack_write(input *from);
 void try_report(input *from);
 
+/* A run whose next instruction copies. */
+void try_copy(input *from);
+
 #endif

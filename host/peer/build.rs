@@ -9,11 +9,12 @@ use std::path::{Path, PathBuf};
 use std::process::Command;
 
 /// C's functions that are timed, in the order of `sides!`, and their sources.
-const C: [(&str, &str); 4] = [
+const C: [(&str, &str); 5] = [
     ("peer_run", "run"),
     ("peer_verify_bitmap", "verify_bitmap"),
     ("peer_pack_check", "pack"),
     ("peer_verify", "verify"),
+    ("peer_run_memmove", "run_memmove"),
 ];
 /// The proved library's.
 const PROVED: [&str; 3] = ["khx_run", "khx_verify", "khx_pack_check"];

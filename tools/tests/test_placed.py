@@ -1,4 +1,4 @@
-"""Tests of tools/placed: it lays khx_run where it says, and touches nothing else."""
+"""Tests of tools/placed: it lays khx_run so that the head of its loop is in one line, and touches nothing else."""
 import os
 import pathlib
 import platform
@@ -8,13 +8,25 @@ import tempfile
 import unittest
 
 PLACED = pathlib.Path(__file__).resolve().parent.parent / "placed"
+# Two jumps lead to the head, which ends with the first jump by a table; one leads elsewhere.
 RUN = """.section .text.khx_run,"ax",@progbits
 .p2align 4
 .globl khx_run
 khx_run:
-    movl $77, %eax
-    ret
+    .skip BEFORE, 0x90
+1:  decl %eax
+    .skip HEAD, 0x90
+    jmp *%rdx
+2:  jmp 1b
+    jmp 2b
+    jmp 1b
+    jmp *%rcx
 """
+
+
+def run(before, head):
+    """A run whose head begins after so many bytes and has so many between its first instruction and its jump, four bytes more in all."""
+    return RUN.replace("BEFORE", str(before)).replace("HEAD", str(head))
 
 
 def clang():
@@ -36,18 +48,41 @@ class Placed(unittest.TestCase):
     def lies(self, object_):
         return subprocess.run([PLACED, "--lies", object_], check=False).returncode == 0
 
-    def test_the_run_is_laid_at_its_place(self):
-        run = self.assembled(RUN)
-        self.assertFalse(self.lies(run))
-        subprocess.run([PLACED, run], check=True)
-        self.assertTrue(self.lies(run))
+    def place(self, object_):
+        """How far into its section the run begins."""
+        nm = "nm" if platform.machine() == "x86_64" else "x86_64-linux-gnu-nm"
+        words = subprocess.run([nm, "--format=posix", object_], check=True, capture_output=True, text=True).stdout.split()
+        return int(words[words.index("khx_run") + 2], 16)
+
+    def laid(self, before, head):
+        """Where a run is laid."""
+        run_ = self.assembled(run(before, head))
+        subprocess.run([PLACED, run_], check=True)
+        self.assertTrue(self.lies(run_))
+        return self.place(run_)
+
+    def test_the_run_is_laid_at_the_first_place_that_keeps_its_head_in_a_line(self):
+        self.assertEqual(self.laid(0, 60), 0)
+        self.assertEqual(self.laid(20, 40), 0)
+        self.assertEqual(self.laid(21, 40), 48)
+        self.assertEqual(self.laid(40, 44), 32)
+        self.assertEqual(self.laid(62, 44), 16)
+
+    def test_a_head_across_two_lines_is_noticed(self):
+        self.assertFalse(self.lies(self.assembled(run(40, 44))))
+        self.assertFalse(self.lies(self.assembled(run(40, 44).replace(".p2align 4", ".p2align 6"))))
 
     def test_a_place_without_its_alignment_is_noticed(self):
-        self.assertTrue(self.lies(self.assembled(RUN.replace(".p2align 4", ".p2align 6\n.skip 48, 0x90"))))
-        self.assertFalse(self.lies(self.assembled(RUN.replace(".p2align 4", ".p2align 4\n.skip 48, 0x90"))))
+        self.assertTrue(self.lies(self.assembled(run(0, 44).replace(".p2align 4", ".p2align 6"))))
+        self.assertFalse(self.lies(self.assembled(run(0, 44))))
+
+    def test_a_head_that_no_place_keeps_in_a_line_is_refused(self):
+        for text in [run(0, 61), run(8, 55), run(0, 44).replace("jmp *", "notq ")]:
+            refused = subprocess.run([PLACED, self.assembled(text)], check=False, capture_output=True, text=True)
+            self.assertEqual((refused.returncode, refused.stderr), (1, "placed: no place keeps the head of khx_run's loop in one line\n"))
 
     def test_an_object_without_the_run_stays_as_it_is(self):
-        other = self.assembled(RUN.replace("khx_run", "khx_list"))
+        other = self.assembled(run(0, 44).replace("khx_run", "khx_list"))
         before = other.read_bytes()
         subprocess.run([PLACED, other], check=True)
         self.assertEqual(other.read_bytes(), before)

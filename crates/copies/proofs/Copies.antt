@@ -1,43 +1,50 @@
 -- The two copies byte by byte, and what an operation that copies does: fault 6, its source's fault, or the copy and one value pushed.
 -- Assumes nothing.
-use Prim.Native.Nat.{ℕ, zero, suc, _+_, _-_, _%_, _≤_, _<_}
+use Prim.Native.Nat.{ℕ, suc, _+_, _-_, _%_, _≤_, _<_}
 use native.Mathlib.Omega.{arith}
 use native.Mathlib.Nat.{add-zero}
-use native.Mathlib.Numerals.{add-one, sub-one}
-use mathlib.Core.Path.{_≡_, refl, sym, _∙_}
+use native.Mathlib.Numerals.{add-one}
+use mathlib.Core.Path.{_≡_, refl, sym, ap, _∙_}
 use mathlib.Core.Bool.{true, false}
-use mathlib.Core.List.{List, [], _∷_}
-use lib.ListN.{length, getD, set}
-use lib.Seq.{drop-cons}
+use mathlib.Core.List.{List, [], _∷_, _++_}
+use lib.ListN.{length, getD, set, take, drop, length-drop}
+use lib.Seq.{sets, drop-cons, take-suc, length-take-le, getD-drop, set-comm}
 use Rattle.basis.specs.Pick.{pick}
 use Rattle.isa.specs.Op.{Op, DataCopy, ProgramCopy}
 use Rattle.isa.specs.Shape.{takenOf, pushedOf, wayOf}
-use Rattle.effects.specs.Memory.{operandOf, pushed, good, copied, copiedFrom}
+use Rattle.effects.specs.Memory.{operandOf, pushed, good, copied}
 use Rattle.effects.specs.Effect.{fails, leaves, effectOf, goes, goingOf}
 use Rattle.effects.specs.Act.{done, doOf}
 use Rattle.effects.specs.declared.Move.the-variants.{To, Fault}
 use Rattle.effects.proofs.Opens as opens
 
 -- no byte is left
-pub copied-none : (n a b : ℕ) (mem : List ℕ) → n ≡ 0 → copied n a b mem ≡ mem
-unfolding copied
-copied-none n a b mem e = rw e
+pub copied-none : (source : List ℕ) (n a b : ℕ) (mem : List ℕ) → n ≡ 0 → copied source n a b mem ≡ mem
+copied-none source n a b mem e = rw e
 
--- one byte, then the rest
-pub copied-more : (n a b : ℕ) (mem : List ℕ) → 0 < n → copied n a b mem ≡ copied (n - 1) (a + 1) (b + 1) (set mem a (getD mem b 0))
-unfolding copied
-copied-more zero a b mem h = absurd (omega arith)
-copied-more (suc n) a b mem h = rw sub-one
+-- the first byte, then the rest
+pub copied-first :
+    (source : List ℕ) (n k a b : ℕ) (mem : List ℕ) → n ≡ k + 1 → b < length source
+    → copied source n a b mem ≡ copied source k (a + 1) (b + 1) (set mem a (getD source b 0))
+copied-first source n k a b mem e l = rw (e, add-one k, add-one a, add-one b, drop-cons source b 0 l)
 
--- the same from the program
-pub from-none : (program : List ℕ) (n a b : ℕ) (mem : List ℕ) → n ≡ 0 → copiedFrom program n a b mem ≡ mem
-from-none program n a b mem e = rw e
+-- the last of some stores may come first
+sets-last : (vs mem : List ℕ) (a v : ℕ) → sets mem a (vs ++ (v ∷ [])) ≡ sets (set mem (a + length vs) v) a vs
+sets-last [] mem a v = rw add-zero
+sets-last (w ∷ vs) mem a v =
+    let e : a + suc (length vs) ≡ suc a + length vs = omega arith in
+    sets-last vs (set mem a w) (suc a) v
+    ∙ ap (λ (l : List ℕ). sets l (suc a) vs) (set-comm mem a (suc a + length vs) w v (λ z. omega arith) ∙ rw e)
 
-pub from-more :
-    (program : List ℕ) (n a b : ℕ) (mem : List ℕ) → 0 < n → b < length program
-    → copiedFrom program n a b mem ≡ copiedFrom program (n - 1) (a + 1) (b + 1) (set mem a (getD program b 0))
-from-more program zero a b mem h l = absurd (omega arith)
-from-more program (suc n) a b mem h l = rw (sub-one, add-one a, add-one b, drop-cons program b 0 l)
+-- the last byte, then the rest
+pub copied-last :
+    (source : List ℕ) (n k a b p q : ℕ) (mem : List ℕ) → n ≡ k + 1 → p ≡ a + k → q ≡ b + k → q < length source
+    → copied source n a b mem ≡ copied source k a b (set mem p (getD source q 0))
+copied-last source n k a b p q mem e f g l =
+    let h : k < length (drop b source) = omega (arith, length-drop b source) in
+    let m = length-take-le k (drop b source) (omega arith) in
+    rw (e, f, g, add-one k, take-suc (drop b source) k 0 h, getD-drop b source k 0)
+    (sets-last (take k (drop b source)) mem a (getD source (b + k) 0) ∙ rw m)
 
 -- an operation that copies c bytes from b of its source to a of the data, its source's range being fault n
 pub record Copies (program : List ℕ) (next : ℕ) (o : Op) (depth : ℕ) (mem cells source after : List ℕ) (a b c n : ℕ) : Type 0 where
@@ -59,14 +66,14 @@ module _ (program : List ℕ) (next depth : ℕ) (mem cells : List ℕ) (enough 
       let a = getD cells top 0 in
       let b = getD cells (top + 1) 0 in
       let c = getD cells (top + 2) 0 in
-      Copies program next DataCopy depth mem cells mem (copied c a b mem) a b c 6
+      Copies program next DataCopy depth mem cells mem (copied mem c a b mem) a b c 6
   data-copies = record { taken = refl; pushes = refl; way = refl; effect = rw add-zero; enough = enough; deep = deep }
 
   pub program-copies :
       let a = getD cells top 0 in
       let b = getD cells (top + 1) 0 in
       let c = getD cells (top + 2) 0 in
-      Copies program next ProgramCopy depth mem cells program (copiedFrom program c a b mem) a b c 7
+      Copies program next ProgramCopy depth mem cells program (copied program c a b mem) a b c 7
   program-copies = record { taken = refl; pushes = refl; way = refl; effect = rw add-zero; enough = enough; deep = deep }
 
 module _ {program : List ℕ} {next : ℕ} {o : Op} {depth : ℕ} {mem cells source after : List ℕ} {a b c n : ℕ} (x : Copies program next o depth mem cells source after a b c n) where

@@ -1,6 +1,7 @@
 // The copy from data to data.
 ghost use mathlib.Core.Path.{_≡_};
 ghost use mathlib.Core.List.{List};
+ghost use mathlib.Core.Logic.{_⊎_};
 ghost use Prim.Native.Nat.{ℕ, _+_, _≤_};
 ghost use lib.ListN.{length};
 ghost use Rattle.isa.specs.Op.{DataCopy};
@@ -11,19 +12,46 @@ use effects::Move;
 use memory::push;
 use memory::sum;
 
-// Copies `count` bytes, one at a time, lowest address first.
-fn copy_bytes(to: u16, from: u16, count: u16, data: &mut [u8])
+// Copies `count` bytes, lowest address first: down, or to a range apart, each is read before one is written over it.
+fn lowest_first(to: u16, from: u16, count: u16, data: &mut [u8])
     requires { ⌜ (to + count ≤ length (now «data»)) × (from + count ≤ length (now «data»)) ⌝ }
-    ensures { λ _. ⌜ now («data» .exit) ≡ copied count to from (now («data» .entry)) ⌝ }
+    ensures { λ _. ⌜ ((to ≤ from) ⊎ (from + count ≤ to) → now («data» .exit) ≡ copied (now («data» .entry)) count to from (now («data» .entry))) ⌝ }
 {
     let mut target = to as usize;
     let mut source = from as usize;
-    let mut left = count as usize;
-    while 0 < left {
+    let end = sum(from, count);
+    while source < end {
         data[target] = data[source];
         target += 1;
         source += 1;
-        left -= 1;
+    }
+}
+
+// The same, highest address first: up.
+fn highest_first(to: u16, from: u16, count: u16, data: &mut [u8])
+    requires { ⌜ (to + count ≤ length (now «data»)) × (from + count ≤ length (now «data»)) ⌝ }
+    ensures { λ _. ⌜ (from ≤ to → now («data» .exit) ≡ copied (now («data» .entry)) count to from (now («data» .entry))) ⌝ }
+{
+    let mut target_end = sum(to, count);
+    let mut source_end = sum(from, count);
+    while (from as usize) < source_end {
+        target_end -= 1;
+        source_end -= 1;
+        data[target_end] = data[source_end];
+    }
+}
+
+// Copies `count` bytes as they stood before: lowest address first, but for a target that begins inside its source.
+fn copy_bytes(to: u16, from: u16, count: u16, data: &mut [u8])
+    requires { ⌜ (to + count ≤ length (now «data»)) × (from + count ≤ length (now «data»)) ⌝ }
+    ensures { λ _. ⌜ now («data» .exit) ≡ copied (now («data» .entry)) count to from (now («data» .entry)) ⌝ }
+{
+    if to <= from {
+        lowest_first(to, from, count, data);
+    } else if sum(from, count) <= to as usize {
+        lowest_first(to, from, count, data);
+    } else {
+        highest_first(to, from, count, data);
     }
 }
 

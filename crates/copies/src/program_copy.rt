@@ -3,7 +3,7 @@ ghost use mathlib.Core.Path.{_≡_};
 ghost use Prim.Native.Nat.{_+_, _≤_};
 ghost use lib.ListN.{length};
 ghost use Rattle.isa.specs.Op.{ProgramCopy};
-ghost use Rattle.effects.specs.Memory.{copiedFrom};
+ghost use Rattle.effects.specs.Memory.{copied};
 ghost use Rattle.effects.specs.Act.{done, doOf};
 use crate::inside;
 use effects::Move;
@@ -13,7 +13,7 @@ use memory::sum;
 // Copies `count` bytes of the program.
 fn copy_bytes(to: u16, from: u16, count: u16, program: &[u8], data: &mut [u8])
     requires { ⌜ (to + count ≤ length (now «data»)) × (from + count ≤ length (now program)) ⌝ }
-    ensures { λ _. ⌜ now («data» .exit) ≡ copiedFrom (now (program .entry)) count to from (now («data» .entry)) ⌝ }
+    ensures { λ _. ⌜ now («data» .exit) ≡ copied (now (program .entry)) count to from (now («data» .entry)) ⌝ }
 {
     let mut target = to as usize;
     let mut source = from as usize;

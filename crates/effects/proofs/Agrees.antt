@@ -1,13 +1,13 @@
 -- Data that agree where an operation reads give the same move, the same cells and the same bytes written.
 -- Assumes nothing.
-use Prim.Native.Nat.{ℕ, zero, suc, _+_, _-_}
+use Prim.Native.Nat.{ℕ, zero, suc, _+_, _-_, _≤_, _<_}
 use native.Mathlib.Omega.{arith}
 use mathlib.Core.Path.{_≡_, refl, sym, ap, _∙_, subst}
 use mathlib.Core.Logic.{inl, ⊎-elim, _≢_}
 use mathlib.Core.Bool.{Bool, true, false}
 use mathlib.Core.List.{List, [], _∷_}
 use lib.ListN.{length, getD, set, take, drop, length-set, length-drop, List·getD-eq-default}
-use lib.Seq.{sets, getD-set-same, getD-set-other, length-take-le}
+use lib.Seq.{sets, getD-set-same, getD-set-other, length-take-le, getD-take, getD-drop, ext-getD}
 use lib.Dec.{leb, ltb, eqb}
 use borrow.Author.Tests.{leb-true, ltb-true, ltb-false}
 use Rattle.basis.specs.Pick.{pick}
@@ -21,11 +21,11 @@ use Rattle.isa.specs.Decode.{decodeOf}
 use Rattle.isa.specs.declared.Instruction.{Instruction}
 use Rattle.isa.specs.declared.Route.{Route}
 use Rattle.effects.specs.Memory.{operandOf, pushed, good, copied}
-use Rattle.effects.specs.Effect.{Effect, fails, leaves, placeOf, routed, effectOf}
+use Rattle.effects.specs.Effect.{Effect, fails, leaves, placeOf, copiedFrom, routed, effectOf}
 use Rattle.effects.specs.Act.{done, onEffect, onStack, doOf, actOf}
 use Rattle.effects.specs.Reach.{writesFrom, writesCount, readsFrom, readsCount, Among, Agree, Alike}
 use Rattle.effects.specs.declared.Move.the-variants.{Fault}
-use Rattle.effects.proofs.Frame.{sets-out, copied-out}
+use Rattle.effects.proofs.Frame.{sets-out}
 use Rattle.isa.specs.Op as op
 use Rattle.isa.specs.declared.Route.the-variants as route
 
@@ -61,24 +61,23 @@ sets-agree (v ∷ vs) l l′ at q s h =
     (λ n. sets-agree vs (set l at v) (set l′ at v) (suc at) q (same-set l l′ at v s) (omega (arith, h .0), omega (arith, h .1)))
     (same? q at)
 
--- copies: a byte that is read after it was written came from the range
-copied-agree : (c a b : ℕ) (mem mem′ : List ℕ) (q : ℕ) → Agree b c mem mem′ → Among q a c → getD (copied c a b mem) q 0 ≡ getD (copied c a b mem′) q 0
-unfolding copied
-copied-agree zero a b mem mem′ q g h = absurd (omega (arith, h .0, h .1))
-copied-agree (suc c) a b mem mem′ q g h =
-    let v = getD mem b 0 in
-    let later : Agree (b + 1) c (set mem a v) (set mem′ a v) = record {
-      size = same-set mem mem′ a v (g .size);
-      bytes = λ r i. set-agree mem mem′ a v r (g .size) (λ n. g .bytes r (omega (arith, i .0), omega (arith, i .1)));
-    } in
-    ⊎-elim
-    (λ e.
-    copied-out c (a + 1) (b + 1) (set mem a v) q (inl (omega arith))
-    ∙ set-agree mem mem′ a v q (g .size) (λ n. absurd (n e))
-    ∙ sym (copied-out c (a + 1) (b + 1) (set mem′ a v) q (inl (omega arith))))
-    (λ n. copied-agree c (a + 1) (b + 1) (set mem a v) (set mem′ a v) q later (omega (arith, h .0), omega (arith, h .1)))
-    (same? q a)
-    ∙ ap (λ (x : ℕ). getD (copied c (a + 1) (b + 1) (set mem′ a x)) q 0) (g .bytes b (omega arith, omega arith))
+-- parts
+part-agree : (b c : ℕ) (l l′ : List ℕ) → Agree b c l l′ → b + c ≤ length l → take c (drop b l) ≡ take c (drop b l′)
+part-agree b c l l′ g h =
+    let n = length-take-le c (drop b l) (omega (arith, length-drop b l)) in
+    let n′ = length-take-le c (drop b l′) (omega (arith, g .size, length-drop b l′)) in
+    ext-getD 0 _ _ (n ∙ sym n′)
+    (λ i k.
+    let j : i < c = omega arith in
+    rw (getD-take c (drop b l) i 0 j, getD-take c (drop b l′) i 0 j, getD-drop b l i 0, getD-drop b l′ i 0) (g .bytes (b + i) (omega arith, omega arith)))
+
+-- copies
+copied-agree :
+    (source source′ : List ℕ) (c a b : ℕ) (mem mem′ : List ℕ) (q : ℕ) → length mem ≡ length mem′ → Agree b c source source′ → b + c ≤ length source → Among q a c
+    → getD (copied source c a b mem) q 0 ≡ getD (copied source′ c a b mem′) q 0
+copied-agree source source′ c a b mem mem′ q s g k h =
+    let n = length-take-le c (drop b source) (omega (arith, length-drop b source)) in
+    rw (← part-agree b c source source′ g k) (sets-agree (take c (drop b source)) mem mem′ a q s (h .0, omega (arith, h .1)))
 
 -- numbers
 number-agree : (w : ℕ) (mem mem′ : List ℕ) (p : ℕ) → Agree p w mem mem′ → numberAt w mem p ≡ numberAt w mem′ p
@@ -101,6 +100,9 @@ same-or true false from n j x y e h = absurd (false-true (sym e))
 same-or false true from n j x y e h = absurd (false-true e)
 same-or false false from n j x y e h = refl
 
+same-good : (l l′ : List ℕ) (p w : ℕ) → length l ≡ length l′ → good l p w ≡ good l′ p w
+same-good l l′ p w s = ap (λ (n : ℕ). leb (p + w) n) s
+
 module _ (program mem mem′ : List ℕ) (arg : ℕ → ℕ) (next : ℕ) where
   -- nothing is written
   still : (vs us : List ℕ) → vs ≡ us → Same 0 0 (leaves mem vs) (leaves mem′ us)
@@ -114,23 +116,20 @@ module _ (program mem mem′ : List ℕ) (arg : ℕ → ℕ) (next : ℕ) where
   same-routed route.System x = same-or (eqb x 0) (eqb x 0) 0 0 8 (leaves mem []) (leaves mem′ []) refl (λ t. still [] [] refl)
   same-routed route.Extension x = refl
 
-  same-good : (p w : ℕ) → length mem ≡ length mem′ → good mem p w ≡ good mem′ p w
-  same-good p w s = ap (λ (n : ℕ). leb (p + w) n) s
+  -- from sources that agree in the range
+  same-copied :
+      (source source′ : List ℕ) (n : ℕ) → length mem ≡ length mem′ → Agree (arg 1) (arg 2) source source′
+      → Same (arg 0) (arg 2) (copiedFrom program mem arg next source n) (copiedFrom program mem′ arg next source′ n)
+  same-copied source source′ n s g =
+      same-or (good mem (arg 0) (arg 2)) (good mem′ (arg 0) (arg 2)) (arg 0) (arg 2) 6 _ _ (same-good mem mem′ (arg 0) (arg 2) s)
+      (λ t. same-or (good source (arg 1) (arg 2)) (good source′ (arg 1) (arg 2)) (arg 0) (arg 2) n _ _ (same-good source source′ (arg 1) (arg 2) (g .size))
+      (λ u. (refl, λ q h. copied-agree source source′ (arg 2) (arg 0) (arg 1) mem mem′ q s g (leb-true _ _ u) h)))
 
   same-effect : (o : Op) → Agree (readsFrom arg o) (readsCount arg o) mem mem′ → Same (writesFrom arg o) (writesCount arg o) (effectOf program mem arg next o) (effectOf program mem′ arg next o)
   same-effect op.Halt g = still [] [] refl
   same-effect op.Discard g = still [] [] refl
-  same-effect op.DataCopy g =
-      same-or (good mem (arg 0) (arg 2)) (good mem′ (arg 0) (arg 2)) (arg 0) (arg 2) 6 _ _ (same-good (arg 0) (arg 2) (g .size))
-      (λ t. same-or (good mem (arg 1) (arg 2)) (good mem′ (arg 1) (arg 2)) (arg 0) (arg 2) 6 _ _ (same-good (arg 1) (arg 2) (g .size))
-      (λ u. (refl, λ q h. copied-agree (arg 2) (arg 0) (arg 1) mem mem′ q g h)))
-  same-effect op.ProgramCopy g =
-      same-or (good mem (arg 0) (arg 2)) (good mem′ (arg 0) (arg 2)) (arg 0) (arg 2) 6 _ _ (same-good (arg 0) (arg 2) (g .size))
-      (λ t. same-or (good program (arg 1) (arg 2)) (good program (arg 1) (arg 2)) (arg 0) (arg 2) 7 _ _ refl
-      (λ u.
-      let k = leb-true (arg 1 + arg 2) (length program) u in
-      let l = length-take-le (arg 2) (drop (arg 1) program) (omega (arith, length-drop (arg 1) program)) in
-      (refl, λ q h. sets-agree (take (arg 2) (drop (arg 1) program)) mem mem′ (arg 0) q (g .size) (h .0, omega (arith, h .1)))))
+  same-effect op.DataCopy g = same-copied mem mem′ 6 (g .size) g
+  same-effect op.ProgramCopy g = same-copied program program 7 (g .size) (record { size = refl; bytes = λ q h. refl })
   same-effect op.Swap g = still (arg 0 ∷ arg 1 ∷ []) (arg 0 ∷ arg 1 ∷ []) refl
   same-effect (op.Taken r) g = same-routed r (arg 0)
   same-effect (op.Given r x) g = same-routed r x
@@ -138,10 +137,10 @@ module _ (program mem mem′ : List ℕ) (arg : ℕ → ℕ) (next : ℕ) where
   same-effect (op.TwoNumber p x) g = still _ _ refl
   same-effect (op.One s) g = still _ _ refl
   same-effect (op.Load w n x) g =
-      same-or (good mem (placeOf arg n x) w) (good mem′ (placeOf arg n x) w) 0 0 6 _ _ (same-good (placeOf arg n x) w (g .size))
+      same-or (good mem (placeOf arg n x) w) (good mem′ (placeOf arg n x) w) 0 0 6 _ _ (same-good mem mem′ (placeOf arg n x) w (g .size))
       (λ t. still _ _ (ap (λ (v : ℕ). v ∷ []) (number-agree w mem mem′ (placeOf arg n x) g)))
   same-effect (op.Store w n x) g =
-      same-or (good mem (placeOf arg n x) w) (good mem′ (placeOf arg n x) w) (placeOf arg n x) w 6 _ _ (same-good (placeOf arg n x) w (g .size))
+      same-or (good mem (placeOf arg n x) w) (good mem′ (placeOf arg n x) w) (placeOf arg n x) w 6 _ _ (same-good mem mem′ (placeOf arg n x) w (g .size))
       (λ t.
       let l = length-bytes w (arg n) in
       (refl, λ q h. sets-agree (bytesOf w (arg n)) mem mem′ (placeOf arg n x) q (g .size) (h .0, omega (arith, h .1))))

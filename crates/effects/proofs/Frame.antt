@@ -1,10 +1,9 @@
 -- An operation that does not fault reaches only inside the memories, and what lies outside the ranges that it names, and
 -- outside the cells that it pushes into, keeps what it held.
 -- Assumes nothing.
-use Prim.Native.Nat.{ℕ, zero, suc, _+_, _-_, _≤_}
+use Prim.Native.Nat.{ℕ, suc, _+_, _-_, _≤_}
 use native.Mathlib.Omega.{arith}
-use native.Mathlib.Numerals.{add-one}
-use mathlib.Core.Path.{_≡_, refl, sym, ap, _∙_, subst}
+use mathlib.Core.Path.{_≡_, refl, sym, _∙_}
 use mathlib.Core.Logic.{inl, inr, _≢_}
 use mathlib.Core.Bool.{Bool, true, false}
 use mathlib.Core.List.{List, [], _∷_}
@@ -24,7 +23,7 @@ use Rattle.isa.specs.Decode.{decodeOf}
 use Rattle.isa.specs.declared.Instruction.{Instruction}
 use Rattle.isa.specs.declared.Route.{Route}
 use Rattle.effects.specs.Memory.{operandOf, pushed, good, copied}
-use Rattle.effects.specs.Effect.{Effect, fails, leaves, placeOf, routed, effectOf, Going, stays, goes, goingOf}
+use Rattle.effects.specs.Effect.{Effect, fails, leaves, placeOf, copiedFrom, routed, effectOf, Going, stays, goes, goingOf}
 use Rattle.effects.specs.Act.{Done, done, moveOf, onEffect, doOf, actOf}
 use Rattle.effects.specs.declared.Move.the-variants.{Fault}
 use Rattle.effects.proofs.Opens.{few, full, opened}
@@ -51,13 +50,10 @@ out-less q from n k l (inl h) = inl h
 out-less q from n k l (inr h) = inr (omega arith)
 
 -- copies
-out-one : (q a c : ℕ) → Out q a (suc c) → Out q (a + 1) c
-out-one q a c h = subst (λ (x : ℕ). Out q x c) (sym (add-one a)) (out-next q a c h)
-
-pub copied-out : (c a b : ℕ) (mem : List ℕ) (q : ℕ) → Out q a c → getD (copied c a b mem) q 0 ≡ getD mem q 0
-unfolding copied
-copied-out zero a b mem q h = refl
-copied-out (suc c) a b mem q h = copied-out c (a + 1) (b + 1) (set mem a (getD mem b 0)) q (out-one q a c h) ∙ getD-set-other mem a q (getD mem b 0) 0 (out-ne q a c h)
+copied-out : (source : List ℕ) (c a b : ℕ) (mem : List ℕ) (q : ℕ) → Out q a c → getD (copied source c a b mem) q 0 ≡ getD mem q 0
+copied-out source c a b mem q h =
+    let l : length (take c (drop b source)) ≤ c = simp length-take (omega arith) in
+    sets-out (take c (drop b source)) mem a q (out-less q a c _ l h)
 
 -- pushes: the cells from the new top up to the old one
 out-push : (q n d k : ℕ) → d + suc k ≤ n → Out q (n - (d + suc k)) (suc k) → (q ≢ n - (d + 1)) × Out q (n - (d + 1 + k)) k
@@ -108,30 +104,26 @@ module _ (program mem : List ℕ) (arg : ℕ → ℕ) (next : ℕ) (mem′ vs : 
   shown-route o route.System x i p e = still o [] (ranged (eqb x 0) (leaves mem []) 8 mem′ vs e .1) i (sym p)
   shown-route o route.Extension x i p e = absurd (fails-leaves 8 mem′ vs e)
 
+  -- a copy from a source: both its ranges are good
+  shown-copy :
+      (o : Op) (source : List ℕ) (n : ℕ) → (arg 0 + arg 2 ≤ length mem → arg 1 + arg 2 ≤ length source → InRange arg program mem o)
+      → pushedOf o ≡ 1 → writesFrom arg o ≡ arg 0 → writesCount arg o ≡ arg 2 → copiedFrom program mem arg next source n ≡ leaves mem′ vs → Shown program mem mem′ vs arg o
+  shown-copy o source n i p f c e =
+      let r = ranged (good mem (arg 0) (arg 2)) _ 6 mem′ vs e in
+      let s = ranged (good source (arg 1) (arg 2)) _ n mem′ vs (r .1) in
+      let a = leaves-mem _ mem′ _ vs (s .1) in
+      let b = leaves-values _ mem′ _ vs (s .1) in
+      record {
+        inside = i (leb-true _ _ (r .0)) (leb-true _ _ (s .0));
+        pushes = rw (← b) (sym p);
+        keeps = λ q h. rw (← a) (copied-out source (arg 2) (arg 0) (arg 1) mem q (rw (← f, ← c) h));
+      }
+
   shown-effect : (o : Op) → effectOf program mem arg next o ≡ leaves mem′ vs → Shown program mem mem′ vs arg o
   shown-effect op.Halt e = still op.Halt [] e tt refl
   shown-effect op.Discard e = still op.Discard [] e tt refl
-  shown-effect op.DataCopy e =
-      let r = ranged (good mem (arg 0) (arg 2)) _ 6 mem′ vs e in
-      let s = ranged (good mem (arg 1) (arg 2)) _ 6 mem′ vs (r .1) in
-      let a = leaves-mem _ mem′ _ vs (s .1) in
-      let b = leaves-values _ mem′ _ vs (s .1) in
-      record {
-        inside = (leb-true _ _ (r .0), leb-true _ _ (s .0));
-        pushes = rw (← b);
-        keeps = λ q h. rw (← a) (copied-out (arg 2) (arg 0) (arg 1) mem q h);
-      }
-  shown-effect op.ProgramCopy e =
-      let r = ranged (good mem (arg 0) (arg 2)) _ 6 mem′ vs e in
-      let s = ranged (good program (arg 1) (arg 2)) _ 7 mem′ vs (r .1) in
-      let a = leaves-mem _ mem′ _ vs (s .1) in
-      let b = leaves-values _ mem′ _ vs (s .1) in
-      let l : length (take (arg 2) (drop (arg 1) program)) ≤ arg 2 = simp length-take (omega arith) in
-      record {
-        inside = (leb-true _ _ (r .0), leb-true _ _ (s .0));
-        pushes = rw (← b);
-        keeps = λ q h. rw (← a) (sets-out (take (arg 2) (drop (arg 1) program)) mem (arg 0) q (out-less q (arg 0) (arg 2) _ l h));
-      }
+  shown-effect op.DataCopy e = shown-copy op.DataCopy mem 6 (λ i j. (i, j)) refl refl refl e
+  shown-effect op.ProgramCopy e = shown-copy op.ProgramCopy program 7 (λ i j. (i, j)) refl refl refl e
   shown-effect op.Swap e = still op.Swap _ e tt refl
   shown-effect (op.Taken r) e = shown-route (op.Taken r) r (arg 0) tt refl e
   shown-effect (op.Given r x) e = shown-route (op.Given r x) r x tt refl e

@@ -1,11 +1,11 @@
 -- One operation, and one instruction, keeps the lengths of the data and of the cells, and leaves a depth within the cells.
 -- Assumes nothing.
-use Prim.Native.Nat.{ℕ, zero, suc, _+_, _-_, _%_, _≤_, _^_}
+use Prim.Native.Nat.{ℕ, _+_, _-_, _%_, _≤_, _^_}
 use native.Mathlib.Omega.{arith}
-use mathlib.Core.Path.{_≡_, refl, _∙_}
+use mathlib.Core.Path.{_≡_, refl}
 use mathlib.Core.Bool.{Bool, true, false}
 use mathlib.Core.List.{List, [], _∷_}
-use lib.ListN.{length, getD, set, take, drop, length-set}
+use lib.ListN.{length, take, drop}
 use lib.Seq.{sets, length-sets}
 use lib.Dec.{ltb, eqb}
 use borrow.Author.Tests.{ltb-false}
@@ -16,8 +16,8 @@ use Rattle.isa.specs.Op.{Op, opOf}
 use Rattle.isa.specs.Shape.{takenOf, pushedOf, wayOf, depthAfter}
 use Rattle.isa.specs.Decode.{Reading, decodeOf}
 use Rattle.isa.specs.declared.Route.{Route}
-use Rattle.effects.specs.Memory.{good, copied, copiedFrom, operandOf}
-use Rattle.effects.specs.Effect.{Effect, fails, leaves, placeOf, routed, effectOf, Going, stays, goes, goingOf}
+use Rattle.effects.specs.Memory.{good, copied, operandOf}
+use Rattle.effects.specs.Effect.{Effect, fails, leaves, placeOf, copiedFrom, routed, effectOf, Going, stays, goes, goingOf}
 use Rattle.effects.specs.Act.{Done, done, moveOf, onEffect, onStack, doOf, onReading, actOf}
 use Rattle.effects.specs.declared.Move.{Move}
 use Rattle.effects.specs.declared.Move.the-variants.{To, Halt, Fault}
@@ -35,11 +35,6 @@ pub record Keeps (mem cells : List ℕ) (d : Done) : Type 0 where
   pub mem-length : length (d .mem) ≡ length mem
   pub cells-length : length (d .cells) ≡ length cells
   pub depth-within : depthIn (d .move) ≤ length cells
-
-length-copied : (c a b : ℕ) (mem : List ℕ) → length (copied c a b mem) ≡ length mem
-unfolding copied
-length-copied zero a b mem = refl
-length-copied (suc c) a b mem = length-copied c (a + 1) (b + 1) (set mem a (getD mem b 0)) ∙ length-set mem a (getD mem b 0)
 
 -- the data that an effect leaves
 abbrev memAfter : List ℕ → Effect → List ℕ
@@ -63,17 +58,17 @@ module _ (program mem : List ℕ) (arg : ℕ → ℕ) (next : ℕ) where
   same-routed route.System x = same-or mem (eqb x 0) (leaves mem []) 8 refl
   same-routed route.Extension x = refl
 
+  same-copied : (source : List ℕ) (n : ℕ) → Same mem (copiedFrom program mem arg next source n)
+  same-copied source n =
+      let x = leaves (copied source (arg 2) (arg 0) (arg 1) mem) ((arg 0 + arg 2) % 65536 ∷ []) in
+      same-or mem (good mem (arg 0) (arg 2)) (pick (good source (arg 1) (arg 2)) x (fails n)) 6
+      (same-or mem (good source (arg 1) (arg 2)) x n (length-sets mem (arg 0) (take (arg 2) (drop (arg 1) source))))
+
   same-effect : (o : Op) → Same mem (effectOf program mem arg next o)
   same-effect op.Halt = refl
   same-effect op.Discard = refl
-  same-effect op.DataCopy =
-      let x = leaves (copied (arg 2) (arg 0) (arg 1) mem) ((arg 0 + arg 2) % 65536 ∷ []) in
-      same-or mem (good mem (arg 0) (arg 2)) (pick (good mem (arg 1) (arg 2)) x (fails 6)) 6
-      (same-or mem (good mem (arg 1) (arg 2)) x 6 (length-copied (arg 2) (arg 0) (arg 1) mem))
-  same-effect op.ProgramCopy =
-      let x = leaves (copiedFrom program (arg 2) (arg 0) (arg 1) mem) ((arg 0 + arg 2) % 65536 ∷ []) in
-      same-or mem (good mem (arg 0) (arg 2)) (pick (good program (arg 1) (arg 2)) x (fails 7)) 6
-      (same-or mem (good program (arg 1) (arg 2)) x 7 (length-sets mem (arg 0) (take (arg 2) (drop (arg 1) program))))
+  same-effect op.DataCopy = same-copied mem 6
+  same-effect op.ProgramCopy = same-copied program 7
   same-effect op.Swap = refl
   same-effect (op.Taken r) = same-routed r (arg 0)
   same-effect (op.Given r x) = same-routed r x

@@ -13,7 +13,7 @@ use Rattle.isa.specs.declared.Route.{Route}
 use Rattle.isa.specs.declared.Route.the-variants as route
 use Rattle.isa.specs.declared.Way.{Way}
 use Rattle.isa.specs.declared.Way.the-variants.{Stop, Next, Jump, Branch, Call, Taken, System, Extension}
-use Rattle.effects.specs.Memory.{good, copied, copiedFrom}
+use Rattle.effects.specs.Memory.{good, copied}
 
 -- the fault, or the data afterwards and the values pushed, first to last
 pub data Effect : Type 0 where
@@ -34,18 +34,11 @@ holds false v = eqb v 0
 
 -- the next instruction stands at next
 module _ (program mem : List ℕ) (arg : ℕ → ℕ) (next : ℕ) where
-  -- 02: both ends are data, 6; "push a+c"
-  abbrev pub dataCopy : Effect
-  dataCopy =
+  -- a copy from a source whose range is fault n: first the data's range, 6, then the source's; "push a+c"
+  abbrev pub copiedFrom : List ℕ → ℕ → Effect
+  copiedFrom source n =
       pick (good mem (arg 0) (arg 2))
-      (pick (good mem (arg 1) (arg 2)) (leaves (copied (arg 2) (arg 0) (arg 1) mem) ((arg 0 + arg 2) % 65536 ∷ [])) (fails 6))
-      (fails 6)
-
-  -- 03: the data range is 6, the program range 7
-  abbrev pub programCopy : Effect
-  programCopy =
-      pick (good mem (arg 0) (arg 2))
-      (pick (good program (arg 1) (arg 2)) (leaves (copiedFrom program (arg 2) (arg 0) (arg 1) mem) ((arg 0 + arg 2) % 65536 ∷ [])) (fails 7))
+      (pick (good source (arg 1) (arg 2)) (leaves (copied source (arg 2) (arg 0) (arg 1) mem) ((arg 0 + arg 2) % 65536 ∷ [])) (fails n))
       (fails 6)
 
   -- a load of w bytes at p
@@ -69,8 +62,8 @@ module _ (program mem : List ℕ) (arg : ℕ → ℕ) (next : ℕ) where
   abbrev pub effectOf : Op → Effect
   effectOf op.Halt = leaves mem []
   effectOf op.Discard = leaves mem []
-  effectOf op.DataCopy = dataCopy
-  effectOf op.ProgramCopy = programCopy
+  effectOf op.DataCopy = copiedFrom mem 6
+  effectOf op.ProgramCopy = copiedFrom program 7
   effectOf op.Swap = leaves mem (arg 0 ∷ arg 1 ∷ [])
   effectOf (op.Taken r) = routed r (arg 0)
   effectOf (op.Given r x) = routed r x

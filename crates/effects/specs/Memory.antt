@@ -1,5 +1,5 @@
 -- The memories: operands, pushes, ranges and copies.
-use Prim.Native.Nat.{ℕ, zero, suc, _+_, _-_}
+use Prim.Native.Nat.{ℕ, _+_, _-_}
 use mathlib.Core.Bool.{Bool}
 use mathlib.Core.List.{List, [], _∷_}
 use lib.ListN.{length, getD, set, take, drop}
@@ -19,11 +19,7 @@ pushed cells depth (v ∷ vs) = pushed (set cells (length cells - (depth + 1)) v
 abbrev pub good : List ℕ → ℕ → ℕ → Bool
 good memory p w = leb (p + w) (length memory)
 
--- "c bytes from data b to data a, one at a time, lowest address first"
-unfoldable pub copied : ℕ → ℕ → ℕ → List ℕ → List ℕ
-copied zero a b mem = mem
-copied (suc c) a b mem = copied c (a + 1) (b + 1) (set mem a (getD mem b 0))
-
--- "the same from program b"
-abbrev pub copiedFrom : List ℕ → ℕ → ℕ → ℕ → List ℕ → List ℕ
-copiedFrom program c a b mem = sets mem a (take c (drop b program))
+-- "c bytes from data b to data a", "the same from program b": the data with the c bytes that stood from b of the source on now from a on;
+-- "all source bytes are read before any is written" (02, No. 2), so that the source may be the data itself
+abbrev pub copied : List ℕ → ℕ → ℕ → ℕ → List ℕ → List ℕ
+copied source c a b mem = sets mem a (take c (drop b source))

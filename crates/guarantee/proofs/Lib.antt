@@ -4,3 +4,4 @@ pub mod Faults
 pub mod Demands
 pub mod Inside
 pub mod Marked
+pub mod Copies

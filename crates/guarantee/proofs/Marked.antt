@@ -9,7 +9,6 @@ use Rattle.forms.specs.Form.{formOf, codeOf, lengthOf, valueWidth}
 use Rattle.isa.specs.Op.{opIn, opOf}
 use Rattle.isa.specs.Shape.{depthAfter}
 use Rattle.isa.specs.Decode.{headOf, decodeOf}
-use Rattle.effects.specs.Memory.{copied}
 use Rattle.effects.specs.Act.{doOf, actOf}
 use Rattle.machine.specs.Machine.{stepOf}
 use Rattle.machine.specs.Run.{runOf, outcomeOf}
@@ -19,7 +18,7 @@ use Rattle.verifier.specs.Verify.{verifyOf}
 use Rattle.guarantee.specs.Marked.{marked, AllHold, AnyData}
 
 pub all-hold : AllHold marked
-unfolding outcomeOf runOf stepOf actOf doOf copied depthAfter opOf opIn decodeOf headOf lengthOf formOf codeOf valueWidth ones verifyOf walk turns turn lowest meets meet lookOf
+unfolding outcomeOf runOf stepOf actOf doOf depthAfter opOf opIn decodeOf headOf lengthOf formOf codeOf valueWidth ones verifyOf walk turns turn lowest meets meet lookOf
 all-hold = (refl, (refl, (refl, (refl, (refl, (refl, (refl, (refl, (refl, (refl, (refl, (refl, (refl, tt)))))))))))))
 
 pub any-data : AnyData

@@ -1,3 +1,4 @@
 -- The definitions of `guarantee`.
 pub mod Demands
 pub mod Marked
+pub mod Copies

@@ -1,4 +1,4 @@
--- The marked examples of 01, M1 to M12, one table.
+-- The marked examples of 01, M1 to M12, one table; M12 as request No. 2 has it.
 use Prim.Native.Nat.{ℕ, suc, _≤_}
 use mathlib.Core.Path.{_≡_}
 use mathlib.Core.List.{List, [], _∷_}
@@ -48,8 +48,8 @@ marked =
     ∷ decodes (0xC8 ∷ 0x05 ∷ []) (refused 2)
     ∷ decodes (0x31 ∷ 0x10 ∷ []) (refused 2)
     ∷ decodes (0x31 ∷ []) (refused 3)
-    -- "M12 data 1 2 3 4, dcopy a 1, b 0, c 3: data 1 1 1 1, pushes 4": c, b and a are pushed, then 02 and 00
-    ∷ runs (0x83 ∷ 0x80 ∷ 0x81 ∷ 0x02 ∷ 0x00 ∷ []) (1 ∷ 2 ∷ 3 ∷ 4 ∷ []) (0 ∷ 0 ∷ 0 ∷ []) (came (machine (at 4 1 Halted) (1 ∷ 1 ∷ 1 ∷ 1 ∷ []) (1 ∷ 0 ∷ 4 ∷ [])) 5)
+    -- "M12 data 1 2 3 4, dcopy a 1, b 0, c 3: .. pushes 4", "M12 becomes data 1 1 2 3": c, b and a are pushed, then 02 and 00
+    ∷ runs (0x83 ∷ 0x80 ∷ 0x81 ∷ 0x02 ∷ 0x00 ∷ []) (1 ∷ 2 ∷ 3 ∷ 4 ∷ []) (0 ∷ 0 ∷ 0 ∷ []) (came (machine (at 4 1 Halted) (1 ∷ 1 ∷ 2 ∷ 3 ∷ []) (1 ∷ 0 ∷ 4 ∷ [])) 5)
     ∷ []
 
 -- an example holds

@@ -7,7 +7,6 @@ use Rattle.isa.specs.Op.{opIn, opOf}
 use Rattle.isa.specs.Shape.{depthAfter}
 use Rattle.isa.specs.Decode.{headOf, decodeOf}
 use Rattle.encoder.specs.Encode.{encodeOf, wellFormed, valuesGood, bytesIn}
-use Rattle.effects.specs.Memory as memory
 use Rattle.effects.specs.Act.{doOf, actOf}
 use Rattle.machine.specs.Machine.{stepOf}
 use Rattle.machine.specs.Run.{runOf, outcomeOf}
@@ -29,7 +28,7 @@ use Rattle.worked.specs.Worked.{Operations, Faults, Walks, Values, State
 use Rattle.worked.proofs.Again.{all-again}
 
 pub operations-hold : Operations
-unfolding outcomeOf runOf stepOf actOf doOf memory.copied depthAfter opOf opIn decodeOf headOf lengthOf formOf codeOf valueWidth ones
+unfolding outcomeOf runOf stepOf actOf doOf depthAfter opOf opIn decodeOf headOf lengthOf formOf codeOf valueWidth ones
 operations-hold = (
   all-again compared refl,
   all-again reckoned refl,
@@ -47,7 +46,7 @@ operations-hold = (
 )
 
 pub faults-hold : Faults
-unfolding outcomeOf runOf stepOf actOf doOf memory.copied depthAfter opOf opIn decodeOf headOf lengthOf formOf codeOf valueWidth ones
+unfolding outcomeOf runOf stepOf actOf doOf depthAfter opOf opIn decodeOf headOf lengthOf formOf codeOf valueWidth ones
 faults-hold = (
   all-again past refl,
   all-again illegal refl,

@@ -63,12 +63,20 @@ stored =
 
 abbrev pub copied : List Example
 copied =
-    -- "02 dcopy: c bytes from data b to data a, one at a time, lowest address first; push a+c": c 2, b 4, a 1; M12 has the overlap upward, here
-    -- downward: c 4, b 1, a 0
+    -- "02 dcopy: c bytes from data b to data a .. push a+c", "all source bytes are read before any is written" (02, No. 2): apart, c 2, b 4, a 1; down
+    -- by one, c 4, b 1, a 0; up by one, c 4, b 0, a 1; up and down by all but one, c 3, b 0, a 2 and b 2, a 0; onto itself, c 3, b 1, a 1
     runs (0xC2 ∷ 0x02 ∷ 0x04 ∷ 0x01 ∷ 0x02 ∷ 0x00 ∷ []) (1 ∷ 2 ∷ 3 ∷ 4 ∷ 5 ∷ 6 ∷ []) (7 ∷ 7 ∷ 7 ∷ [])
     (came (machine (at 5 1 Halted) (1 ∷ 5 ∷ 6 ∷ 4 ∷ 5 ∷ 6 ∷ []) (1 ∷ 4 ∷ 3 ∷ [])) 3)
     ∷ runs (0xC2 ∷ 0x04 ∷ 0x01 ∷ 0x00 ∷ 0x02 ∷ 0x00 ∷ []) (1 ∷ 2 ∷ 3 ∷ 4 ∷ 5 ∷ []) (7 ∷ 7 ∷ 7 ∷ [])
     (came (machine (at 5 1 Halted) (2 ∷ 3 ∷ 4 ∷ 5 ∷ 5 ∷ []) (0 ∷ 1 ∷ 4 ∷ [])) 3)
+    ∷ runs (0xC2 ∷ 0x04 ∷ 0x00 ∷ 0x01 ∷ 0x02 ∷ 0x00 ∷ []) (1 ∷ 2 ∷ 3 ∷ 4 ∷ 5 ∷ []) (7 ∷ 7 ∷ 7 ∷ [])
+    (came (machine (at 5 1 Halted) (1 ∷ 1 ∷ 2 ∷ 3 ∷ 4 ∷ []) (1 ∷ 0 ∷ 5 ∷ [])) 3)
+    ∷ runs (0xC2 ∷ 0x03 ∷ 0x00 ∷ 0x02 ∷ 0x02 ∷ 0x00 ∷ []) (1 ∷ 2 ∷ 3 ∷ 4 ∷ 5 ∷ []) (7 ∷ 7 ∷ 7 ∷ [])
+    (came (machine (at 5 1 Halted) (1 ∷ 2 ∷ 1 ∷ 2 ∷ 3 ∷ []) (2 ∷ 0 ∷ 5 ∷ [])) 3)
+    ∷ runs (0xC2 ∷ 0x03 ∷ 0x02 ∷ 0x00 ∷ 0x02 ∷ 0x00 ∷ []) (1 ∷ 2 ∷ 3 ∷ 4 ∷ 5 ∷ []) (7 ∷ 7 ∷ 7 ∷ [])
+    (came (machine (at 5 1 Halted) (3 ∷ 4 ∷ 5 ∷ 4 ∷ 5 ∷ []) (0 ∷ 2 ∷ 3 ∷ [])) 3)
+    ∷ runs (0xC2 ∷ 0x03 ∷ 0x01 ∷ 0x01 ∷ 0x02 ∷ 0x00 ∷ []) (1 ∷ 2 ∷ 3 ∷ 4 ∷ 5 ∷ []) (7 ∷ 7 ∷ 7 ∷ [])
+    (came (machine (at 5 1 Halted) (1 ∷ 2 ∷ 3 ∷ 4 ∷ 5 ∷ []) (1 ∷ 1 ∷ 4 ∷ [])) 3)
     -- "03 pcopy: the same from program b": c 2, b 1, a 3
     ∷ runs (0xC2 ∷ 0x02 ∷ 0x01 ∷ 0x03 ∷ 0x03 ∷ 0x00 ∷ []) (9 ∷ 9 ∷ 9 ∷ 9 ∷ 9 ∷ []) (7 ∷ 7 ∷ 7 ∷ [])
     (came (machine (at 5 1 Halted) (9 ∷ 9 ∷ 9 ∷ 2 ∷ 1 ∷ []) (3 ∷ 1 ∷ 5 ∷ [])) 3)

@@ -22,7 +22,8 @@ Times the proved library against plain careful C that does the same checks, by g
 -O2, gcc -O3 and, where it was installed when khx was built, clang -O3: the fastest of
 them is the yardstick. Where code lies in memory moves its time, so each side is linked
 and timed at four places, 16 bytes apart, and the means are compared. Says whether the
-targets are met; short and pack-check have none. Without a CASE, all of them.
+targets are met; short, copy and pack-check have none. A CASE is one of those below or
+the beginning of some, up to a dash: verify, copy. Without a CASE, all of them.
 
   --seconds N   how long to time, all cases together (default 10)
 
@@ -36,10 +37,11 @@ Each function that is timed is linked four times, 0, 16, 32 and 48 bytes past a 
 of 64. The sides take turns at all their places in one process, in alternating order,
 each timed part from the same data, cells and map, laid out anew outside it; the time at
 a place is the least of all rounds, and a side's time is the mean of its four places.
-The C build with the least mean is the yardstick. A ratio is C's mean by ours: over 1,
-ours is faster. On x86-64 the library fixes the place of its run, so that every program
-has it there: as shipped, our time at that place, and by it C's at its fastest place, by
-its fastest build.
+The C build with the least mean is the yardstick; beside it stand C's verifier with a
+cursor and its run that copies by memmove. A ratio is C's mean by ours: over 1, ours is
+faster. On x86-64 the library fixes the place of its run, so that every program has it
+there: as shipped, our time at that place, and by it C's at its fastest place, by its
+fastest build.
 ";
 
 /// The seconds, and the cases that are asked for.
@@ -90,11 +92,11 @@ fn wanted(args: &[String]) -> Result<Wanted, Failure> {
         }
     }
     let mut cases = cases::all();
-    let known = |name: &str| cases.iter().any(|case| case.name == name);
+    let known = |name: &str| cases.iter().any(|case| case.is_called(name));
     if let Some(name) = names.iter().find(|name| !known(name)) {
         return Err(wrong(format!("there is no case {name}")));
     }
-    cases.retain(|case| names.is_empty() || names.contains(&case.name));
+    cases.retain(|case| names.is_empty() || names.iter().any(|name| case.is_called(name)));
     Ok(Wanted { seconds, cases })
 }
 
@@ -181,6 +183,17 @@ mod tests {
         assert_eq!(two.seconds, 0.5);
         let names: Vec<&str> = two.cases.iter().map(|case| case.name).collect();
         assert_eq!(names, ["counting", "pack-check"]);
+    }
+
+    #[test]
+    fn cases_by_the_beginning_of_their_names() {
+        let names = |line| -> Vec<&str> {
+            let wanted = wanted(&words(line)).unwrap_or_else(|failure| panic!("{failure}"));
+            wanted.cases.iter().map(|case| case.name).collect()
+        };
+        assert_eq!(names("copy"), ["copy-up", "copy-down", "copy-apart"]);
+        assert_eq!(names("copy-up pack"), ["copy-up", "pack-check"]);
+        assert!(wanted(&words("cop")).is_err());
     }
 
     #[test]

@@ -48,6 +48,10 @@ typedef struct {
 peer_ran peer_run(peer_state state, const uint8_t *program, size_t program_length, uint8_t *data, size_t data_length,
                   uint16_t *cells, size_t cells_length, uint32_t budget);
 
+/* The same, with dcopy by the C library's memmove. */
+peer_ran peer_run_memmove(peer_state state, const uint8_t *program, size_t program_length, uint8_t *data,
+                          size_t data_length, uint16_t *cells, size_t cells_length, uint32_t budget);
+
 /* The depth map by a cursor that falls back to a lower address. `done` has a byte for each byte of the program. */
 peer_verdict peer_verify(const uint8_t *program, size_t program_length, size_t cells, uint16_t *map, size_t map_length,
                          uint8_t *done);

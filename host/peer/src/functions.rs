@@ -151,21 +151,7 @@ pub trait Measured {
 
 impl<F: Form> Measured for Functions<F> {
     fn run(&self, place: usize, program: &[u8], data: &mut [u8], cells: &mut [u16]) -> [u32; 5] {
-        // SAFETY: each pointer is a slice's own, with its length.
-        let ran = unsafe {
-            (self.run[place])(
-                F::State::default(),
-                program.as_ptr(),
-                program.len(),
-                data.as_mut_ptr(),
-                data.len(),
-                cells.as_mut_ptr(),
-                cells.len(),
-                u32::MAX,
-            )
-        };
-        let [address, depth, status] = F::state(ran.state);
-        [F::number(ran.refusal), ran.steps, address, depth, status]
+        run_by(self.run[place], program, data, cells)
     }
 
     fn verify(&self, place: usize, program: &[u8], cells: usize, map: &mut [u16]) -> [u32; 2] {
@@ -180,6 +166,41 @@ impl<F: Form> Measured for Functions<F> {
         // SAFETY: the pointer is the slice's own, with its length.
         let said = unsafe { (self.pack_check[place])(pack.as_ptr(), pack.len()) };
         said.numbers()
+    }
+}
+
+/// Runs a program by a side's run at a place, as [`Measured::run`] does.
+fn run_by<F: Form>(run: Run<F>, program: &[u8], data: &mut [u8], cells: &mut [u16]) -> [u32; 5] {
+    // SAFETY: each pointer is a slice's own, with its length.
+    let ran = unsafe {
+        run(
+            F::State::default(),
+            program.as_ptr(),
+            program.len(),
+            data.as_mut_ptr(),
+            data.len(),
+            cells.as_mut_ptr(),
+            cells.len(),
+            u32::MAX,
+        )
+    };
+    let [address, depth, status] = F::state(ran.state);
+    [F::number(ran.refusal), ran.steps, address, depth, status]
+}
+
+/// The run that copies by memmove, which C alone has.
+pub struct Memmove(pub(crate) Copies<Run<Plain>>);
+
+impl Memmove {
+    /// As [`Measured::run`].
+    pub fn run(
+        &self,
+        place: usize,
+        program: &[u8],
+        data: &mut [u8],
+        cells: &mut [u16],
+    ) -> [u32; 5] {
+        run_by(self.0[place], program, data, cells)
     }
 }
 

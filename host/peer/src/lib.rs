@@ -7,7 +7,7 @@
 mod functions;
 
 use functions::{copies, Copies, PackCheck, Run, Verify, VerifyByCursor};
-pub use functions::{Cursor, Form, Functions, Measured, Plain, Proved, HALTED};
+pub use functions::{Cursor, Form, Functions, Measured, Memmove, Plain, Proved, HALTED};
 
 /// Each function is linked so many times.
 pub const PLACES: usize = 4;
@@ -23,10 +23,13 @@ pub struct Build {
     pub name: &'static str,
     /// The compiler's own words for its version.
     pub version: &'static str,
-    /// Its functions; the verifier is the one with a bitmap.
+    /// Its functions; the run is the one that copies byte by byte, the verifier the one
+    /// with a bitmap.
     pub functions: Functions<Plain>,
     /// Its verifier with a cursor.
     pub cursor: Cursor,
+    /// Its run that copies by memmove.
+    pub memmove: Memmove,
 }
 
 /// The functions of a side, from the names of their copies.
@@ -44,7 +47,7 @@ macro_rules! functions {
 macro_rules! sides {
     (
         proved $run:tt $verify:tt $pack_check:tt;
-        $($name:literal $version:literal $c_run:tt $c_verify:tt $c_pack_check:tt $c_cursor:tt;)*
+        $($name:literal $version:literal $c_run:tt $c_verify:tt $c_pack_check:tt $c_cursor:tt $c_memmove:tt;)*
     ) => {
         /// The proved library.
         pub static PROVED: Functions<Proved> = functions!(Proved, $run $verify $pack_check);
@@ -56,6 +59,7 @@ macro_rules! sides {
             version: $version,
             functions: functions!(Plain, $c_run $c_verify $c_pack_check),
             cursor: Cursor(copies!(VerifyByCursor, $c_cursor)),
+            memmove: Memmove(copies!(Run<Plain>, $c_memmove)),
         }),*];
     };
 }
@@ -88,6 +92,8 @@ pub fn check_places() -> Result<(), String> {
         check_functions(&side, &build.functions)?;
         let cursor = build.cursor.0.map(|copy| copy as usize);
         check(&side, "verify with a cursor", cursor)?;
+        let memmove = build.memmove.0.map(|copy| copy as usize);
+        check(&side, "run by memmove", memmove)?;
     }
     Ok(())
 }

@@ -181,22 +181,19 @@ impl Machine<'_> {
         Ok(outcome)
     }
 
-    /// 01: "c bytes from data b to data a, one at a time, lowest address first;
-    /// push a+c", or the same from the program. Both ends are looked at first,
-    /// "also for c = 0".
+    /// 01: "c bytes from data b to data a [..]; push a+c", or the same from the
+    /// program; 02, No. 2: "all source bytes are read before any is written". Both
+    /// ends are looked at first, "also for c = 0".
     fn copy(&mut self, from: Memory, operands: &[u16]) -> Result<u16, u32> {
         let [to, source, count] = [0, 1, 2].map(|operand| usize::from(operands[operand]));
         within(self.data.len(), to, count, DATA_RANGE)?;
-        match from {
-            Memory::Data => within(self.data.len(), source, count, DATA_RANGE)?,
-            Memory::Program => within(self.program.len(), source, count, PROGRAM_RANGE)?,
-        }
-        for byte in 0..count {
-            self.data[to + byte] = match from {
-                Memory::Data => self.data[source + byte],
-                Memory::Program => self.program[source + byte],
-            };
-        }
+        let (memory, fault) = match from {
+            Memory::Data => (&self.data[..], DATA_RANGE),
+            Memory::Program => (self.program, PROGRAM_RANGE),
+        };
+        within(memory.len(), source, count, fault)?;
+        let read = memory[source..source + count].to_vec();
+        self.data[to..to + count].copy_from_slice(&read);
         Ok((to + count) as u16)
     }
 
@@ -392,7 +389,7 @@ mod tests {
         let mut data = [1, 2, 3, 4];
         let (steps, after, values) = on_stack(&[0x02], &mut data, &[1, 0, 3], 1);
         assert_eq!((steps, after), (1, running(1, 1)));
-        assert_eq!(data, [1, 1, 1, 1]);
+        assert_eq!(data, [1, 1, 2, 3]);
         assert_eq!(values, [4]);
     }
 

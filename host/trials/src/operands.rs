@@ -120,8 +120,10 @@ fn copy(source: &mut Source, memory: Memory, lengths: Lengths) -> [u16; 3] {
     };
     let count = count.min(65_535);
     let to = end(source, lengths.data, count);
-    let from = match source.below(4) {
-        0 => source.near(to),
+    let from = match source.below(8) {
+        0 | 1 => source.near(to),
+        2 => source.near(to + count),
+        3 => source.near(to.saturating_sub(count)),
         _ => end(source, from, count),
     };
     [to, from, count].map(|value| value.min(65_535) as u16)
@@ -194,5 +196,26 @@ mod tests {
             last += usize::from(ends.0 == 30 || ends.1 == 20);
         }
         assert!(good > 200 && last > 100);
+    }
+
+    #[test]
+    fn copies_that_overlap_both_ways() {
+        let lengths = Lengths {
+            program: 20,
+            data: 30,
+        };
+        let mut source = Source::new(2, 2);
+        let mut shared = [[0; 3]; 2];
+        for _ in 0..2_000 {
+            let [to, from, count] = copy(&mut source, Memory::Data, lengths).map(usize::from);
+            let apart = to.abs_diff(from);
+            let good = to.max(from) + count <= 30 && count > 2;
+            for (i, apart_there) in [1, count.saturating_sub(1), count].into_iter().enumerate() {
+                let here = good && apart == apart_there;
+                shared[usize::from(to > from)][i] += usize::from(here);
+            }
+        }
+        let least = shared.into_iter().flatten().min();
+        assert!(least > Some(5), "{shared:?}");
     }
 }

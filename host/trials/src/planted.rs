@@ -1,49 +1,97 @@
-//! A planted difference, to show that one is noticed: the second implementation
-//! with one easy error of 01, a sixteen-bit sum in one kind of load.
+//! Planted differences, to show that one is noticed: the second implementation with
+//! one easy error.
 
 use conform::{
     Decoded, Engine, Entry, Instruction, Number, Ran, Readings, Second, State, Status, Verdict,
 };
 
-/// The second implementation, but that ld-u16-offs adds its operands modulo
-/// 65,536.
-#[derive(Clone, Copy, Debug, Default)]
-pub struct Planted;
+/// The second implementation with an error.
+#[derive(Clone, Copy, Debug, PartialEq, Eq)]
+pub enum Planted {
+    /// ld-u16-offs adds its operands modulo 65,536.
+    Sum,
+    /// dcopy copies one byte at a time, lowest address first, as it did before No. 2.
+    Copy,
+}
 
 /// The code of ld-u16-offs.
 const LOAD: u8 = 0x20;
+/// The code of dcopy.
+const DATA_COPY: u8 = 0x02;
+
+impl Planted {
+    /// All of them.
+    pub const ALL: [Planted; 2] = [Planted::Sum, Planted::Copy];
+
+    /// Its word on the command line.
+    pub fn name(self) -> &'static str {
+        match self {
+            Planted::Sum => "sum",
+            Planted::Copy => "copy",
+        }
+    }
+}
+
+/// Whether a running machine is at a code.
+fn is_at(code: u8, program: &[u8], state: State) -> bool {
+    program.get(state.address) == Some(&code) && state.status == Status::Running
+}
 
 /// What ld-u16-offs loads here by the wrong sum, where the right one is past the
 /// data's end.
 fn wrongly_loaded(program: &[u8], data: &[u8], stack: &[u16], state: State) -> Option<u16> {
-    let here = program.get(state.address) == Some(&LOAD) && state.status == Status::Running;
     let top = stack.len().checked_sub(state.depth)?;
     let (a, b) = (stack.get(top)?, stack.get(top + 1)?);
     let place = usize::from(a.checked_add(*b).map_or(a.wrapping_add(*b), |_| u16::MAX));
-    let bytes = data.get(place..place + 2).filter(|_| here)?;
+    let bytes = data.get(place..place + 2);
+    let bytes = bytes.filter(|_| is_at(LOAD, program, state))?;
     Some(u16::from_le_bytes([bytes[0], bytes[1]]))
+}
+
+/// A step in which ld-u16-offs adds wrongly.
+fn step_by_sum(program: &[u8], data: &mut [u8], stack: &mut [u16], state: State) -> Ran {
+    let refused = Second.run(program, data, stack, state, 0).steps.is_err();
+    match wrongly_loaded(program, data, stack, state) {
+        Some(value) if !refused => {
+            let second = stack.len() - state.depth + 1;
+            stack[second] = value;
+            let address = state.address + 1;
+            let depth = state.depth - 1;
+            let state = State {
+                address,
+                depth,
+                ..state
+            };
+            Ran {
+                steps: Ok(1),
+                state,
+            }
+        }
+        _ => Second.step(program, data, stack, state),
+    }
+}
+
+/// A step in which dcopy reads bytes that it has written.
+fn step_by_copy(program: &[u8], data: &mut [u8], stack: &mut [u16], state: State) -> Ran {
+    let before = (data.to_vec(), stack.to_vec());
+    let ran = Second.step(program, data, stack, state);
+    if is_at(DATA_COPY, program, state) && ran.steps == Ok(1) {
+        let (bytes, cells) = before;
+        let top = cells.len() - state.depth;
+        let [to, from, count] = [0, 1, 2].map(|operand| usize::from(cells[top + operand]));
+        data.copy_from_slice(&bytes);
+        for byte in 0..count {
+            data[to + byte] = data[from + byte];
+        }
+    }
+    ran
 }
 
 impl Engine for Planted {
     fn step(&self, program: &[u8], data: &mut [u8], stack: &mut [u16], state: State) -> Ran {
-        let refused = Second.run(program, data, stack, state, 0).steps.is_err();
-        match wrongly_loaded(program, data, stack, state) {
-            Some(value) if !refused => {
-                let second = stack.len() - state.depth + 1;
-                stack[second] = value;
-                let address = state.address + 1;
-                let depth = state.depth - 1;
-                let state = State {
-                    address,
-                    depth,
-                    ..state
-                };
-                Ran {
-                    steps: Ok(1),
-                    state,
-                }
-            }
-            _ => Second.step(program, data, stack, state),
+        match self {
+            Planted::Sum => step_by_sum(program, data, stack, state),
+            Planted::Copy => step_by_copy(program, data, stack, state),
         }
     }
 
@@ -120,19 +168,48 @@ mod tests {
 
     /// M9: only the planted error lets it load, and only where the sum wraps.
     #[test]
-    fn wrong_in_one_place() {
+    fn a_sum_wrong_in_one_place() {
         let wraps: &[u8] = b"run c901ffff20 0102 00000000 0 0 running 9";
         assert_eq!(answer(&Second, wraps), "ok 1 4 2 faulted:6 0102 ffff0001");
-        assert_eq!(answer(&Planted, wraps), "ok 2 5 1 faulted:1 0102 ffff0201");
-        let alike: [&[u8]; 5] = [
-            b"run c901feff20 0102 00000000 0 0 running 9",
-            b"run c901ffff20 0102 00000000 0 0 running 1",
-            b"run c901ffff1f 0102 00000000 0 0 running 9",
-            b"run c900000020 0102 0000 0 0 running 9",
-            b"step 20 0102 0001ffff 0 3 running",
-        ];
-        for line in alike {
-            assert_eq!(answer(&Planted, line), answer(&Second, line));
+        let planted = answer(&Planted::Sum, wraps);
+        assert_eq!(planted, "ok 2 5 1 faulted:1 0102 ffff0201");
+        alike(
+            Planted::Sum,
+            &[
+                b"run c901feff20 0102 00000000 0 0 running 9",
+                b"run c901ffff20 0102 00000000 0 0 running 1",
+                b"run c901ffff1f 0102 00000000 0 0 running 9",
+                b"run c900000020 0102 0000 0 0 running 9",
+                b"step 20 0102 0001ffff 0 3 running",
+            ],
+        );
+    }
+
+    /// M12: only up, and only where the ranges overlap.
+    #[test]
+    fn a_copy_wrong_in_one_place() {
+        let up: &[u8] = b"step 02 01020304 000100000003 0 3 running";
+        let m12 = "ok 1 1 1 running 01010203 000100000004";
+        assert_eq!(answer(&Second, up), m12);
+        let planted = answer(&Planted::Copy, up);
+        assert_eq!(planted, "ok 1 1 1 running 01010101 000100000004");
+        alike(
+            Planted::Copy,
+            &[
+                b"step 02 01020304 000000010003 0 3 running",
+                b"step 02 01020304 000200000002 0 3 running",
+                b"step 02 01020304 000200000003 0 3 running",
+                b"step 02 01020304 000100000003 0 2 running",
+                b"step 02 01020304 000100000003 0 4 running",
+                b"step 02 01020304 000100000003 0 3 halted",
+                b"step 03 01020304 000100000001 0 3 running",
+            ],
+        );
+    }
+
+    fn alike(planted: Planted, lines: &[&[u8]]) {
+        for line in lines {
+            assert_eq!(answer(&planted, line), answer(&Second, line));
             assert_ne!(answer(&Second, line), conform::BAD_CASE);
         }
     }

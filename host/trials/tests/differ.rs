@@ -20,15 +20,42 @@ fn no_difference() {
     assert_eq!(differences(&Second).len(), 0);
 }
 
-/// In steps and runs alone, where the proved library faults by 6 and the planted
-/// error does not.
-#[test]
-fn a_planted_difference_is_noticed() {
-    let found = differences(&Planted);
+/// In steps and runs alone.
+fn noticed(planted: Planted) -> Vec<Difference> {
+    let found = differences(&planted);
     assert!(!found.is_empty());
-    for difference in found {
+    for difference in &found {
         let line = String::from_utf8_lossy(&difference.line);
         assert!(line.starts_with("run ") || line.starts_with("step "));
-        assert!(difference.answers[0].contains(" faulted:6 "), "{line}");
     }
+    found
+}
+
+/// Where the proved library faults by 6 and the planted error does not.
+#[test]
+fn a_planted_sum_is_noticed() {
+    for difference in noticed(Planted::Sum) {
+        assert!(difference.answers[0].contains(" faulted:6 "));
+    }
+}
+
+/// Where both did the copy, and of a step only the data differ.
+#[test]
+fn a_planted_copy_is_noticed() {
+    let found = noticed(Planted::Copy);
+    let steps: Vec<&Difference> = found
+        .iter()
+        .filter(|it| it.line.starts_with(b"step "))
+        .collect();
+    assert!(!steps.is_empty());
+    for Difference { answers, .. } in steps {
+        assert_eq!(but_data(&answers[0]), but_data(&answers[1]));
+    }
+}
+
+/// The answer of a step without the data.
+fn but_data(answer: &str) -> Vec<&str> {
+    let mut words: Vec<&str> = answer.split(' ').collect();
+    words.remove(5);
+    words
 }

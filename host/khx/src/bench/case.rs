@@ -9,18 +9,23 @@ use peer::{Measured, PLACES};
 pub enum Side {
     /// The proved library.
     Proved,
-    /// A build of the C; of its two verifiers the one with a bitmap.
+    /// A build of the C; of its two verifiers the one with a bitmap, of its two runs the
+    /// one that copies byte by byte.
     C(usize),
     /// A build of C's verifier with a cursor.
     Cursor(usize),
+    /// A build of C's run that copies by memmove.
+    Memmove(usize),
 }
 
 impl Side {
-    /// What it has as all sides do; C's verifier is the one with a bitmap.
+    /// What it has as all sides do.
     pub fn functions(self) -> &'static dyn Measured {
         match self {
             Side::Proved => &peer::PROVED,
-            Side::C(build) | Side::Cursor(build) => &peer::BUILDS[build].functions,
+            Side::C(build) | Side::Cursor(build) | Side::Memmove(build) => {
+                &peer::BUILDS[build].functions
+            }
         }
     }
 }
@@ -31,6 +36,7 @@ impl fmt::Display for Side {
             Side::Proved => write!(f, "the proved library"),
             Side::C(build) => write!(f, "C by {}", peer::BUILDS[build].name),
             Side::Cursor(build) => write!(f, "C, cursor, by {}", peer::BUILDS[build].name),
+            Side::Memmove(build) => write!(f, "C, memmove, by {}", peer::BUILDS[build].name),
         }
     }
 }
@@ -43,8 +49,17 @@ pub fn both() -> Vec<Side> {
 
 /// The same, and C's verifier with a cursor by each build.
 pub fn all_verifiers() -> Vec<Side> {
-    let cursors = (0..peer::BUILDS.len()).map(Side::Cursor);
-    both().into_iter().chain(cursors).collect()
+    both_and(Side::Cursor)
+}
+
+/// The same, and C's run that copies by memmove by each build.
+pub fn all_runs() -> Vec<Side> {
+    both_and(Side::Memmove)
+}
+
+fn both_and(other: fn(usize) -> Side) -> Vec<Side> {
+    let others = (0..peer::BUILDS.len()).map(other);
+    both().into_iter().chain(others).collect()
 }
 
 /// The numbers that a call gives.
@@ -79,6 +94,8 @@ pub trait Work {
 pub enum Unit {
     /// One of so many steps of a call.
     Step(u32),
+    /// One of so many bytes that a call copies.
+    Byte(u32),
     /// A call, which examines so many instructions.
     Instructions(u32),
     /// A call.
@@ -94,6 +111,12 @@ pub struct Case {
 }
 
 impl Case {
+    /// Whether a word is its name, or the part of it before a dash.
+    pub fn is_called(&self, word: &str) -> bool {
+        let begins = |rest: &str| rest.is_empty() || rest.starts_with('-');
+        self.name.strip_prefix(word).map_or(false, begins)
+    }
+
     /// An error where two copies, of one side or of two, give different answers or leave
     /// different memories.
     pub fn agree(&mut self) -> Result<(), String> {

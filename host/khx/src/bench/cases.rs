@@ -10,6 +10,8 @@ use super::programs;
 const RULES: &[u8] = include_bytes!("../../../../examples/fonts.pack");
 const OS2: u16 = 5;
 const LOCA: u16 = 8;
+/// By how many bytes the copies that overlap shift them: a record of a table.
+const RECORD: u16 = 12;
 /// What the other tables of the font say from which the real tables are.
 const FACTS: Facts = Facts {
     glyphs: 3_377,
@@ -54,6 +56,24 @@ pub fn all() -> Vec<Case> {
                 Run::of_rule(OS2, include_bytes!("tables/os2")),
             )
         },
+        copy(
+            "copy-up",
+            "run: a dcopy of 30,000 bytes, 12 bytes up, so that its ranges overlap",
+            RECORD,
+            0,
+        ),
+        copy(
+            "copy-down",
+            "run: the same, 12 bytes down",
+            0,
+            RECORD,
+        ),
+        copy(
+            "copy-apart",
+            "run: the same to a range apart",
+            programs::COPIED,
+            0,
+        ),
         verify(
             "verify-straight",
             "verify: 16 KB, 16,384 instructions, no jump",
@@ -92,6 +112,17 @@ fn run(name: &'static str, about: &'static str, mut work: Run) -> Case {
         sides: case::both(),
         unit: Unit::Step(steps),
         work: Box::new(work),
+    }
+}
+
+fn copy(name: &'static str, about: &'static str, to: u16, from: u16) -> Case {
+    let program = programs::copy(to, from);
+    Case {
+        name,
+        about,
+        sides: case::all_runs(),
+        unit: Unit::Byte(programs::COPIED.into()),
+        work: Box::new(Run::of(program, programs::table(), 3)),
     }
 }
 
@@ -143,8 +174,16 @@ impl Work for Run {
     }
 
     fn call(&mut self, side: Side, place: usize) -> Answer {
-        let (data, cells) = (&mut self.data, &mut self.cells);
-        side.functions().run(place, &self.program, data, cells)
+        let (program, data, cells) = (&self.program, &mut self.data, &mut self.cells);
+        match side {
+            Side::Proved | Side::C(_) | Side::Cursor(_) => {
+                side.functions().run(place, program, data, cells)
+            }
+            Side::Memmove(build) => {
+                let memmove = &peer::BUILDS[build].memmove;
+                memmove.run(place, program, data, cells)
+            }
+        }
     }
 
     fn memories(&self) -> (Vec<u8>, Vec<u16>) {
@@ -187,7 +226,9 @@ impl Work for Verify {
     fn call(&mut self, side: Side, place: usize) -> Answer {
         let (program, map) = (&self.program, &mut self.map);
         answer(match side {
-            Side::Proved | Side::C(_) => side.functions().verify(place, program, CELLS_MAX, map),
+            Side::Proved | Side::C(_) | Side::Memmove(_) => {
+                side.functions().verify(place, program, CELLS_MAX, map)
+            }
             Side::Cursor(build) => {
                 let cursor = &peer::BUILDS[build].cursor;
                 cursor.verify(place, program, CELLS_MAX, map, &mut self.done)

@@ -12,6 +12,7 @@ pub struct Finding {
     shipped: Option<usize>,
     c: Vec<Times>,
     cursor: Vec<Times>,
+    memmove: Vec<Times>,
     rounds: u32,
 }
 
@@ -28,6 +29,7 @@ impl Finding {
             shipped: case.work.shipped_place(),
             c: of(|side| matches!(side, Side::C(_))),
             cursor: of(|side| matches!(side, Side::Cursor(_))),
+            memmove: of(|side| matches!(side, Side::Memmove(_))),
             rounds: timed.rounds,
         }
     }
@@ -65,7 +67,7 @@ impl Finding {
     fn instruction(&self) -> f64 {
         match self.unit {
             Unit::Instructions(count) => self.ours.mean() / f64::from(count),
-            Unit::Step(_) | Unit::Call => f64::NAN,
+            Unit::Step(_) | Unit::Byte(_) | Unit::Call => f64::NAN,
         }
     }
 
@@ -73,6 +75,7 @@ impl Finding {
     fn told(&self, time: f64) -> String {
         match self.unit {
             Unit::Step(steps) => format!("{:.2}", time / f64::from(steps)),
+            Unit::Byte(bytes) => format!("{:.3}", time / f64::from(bytes)),
             Unit::Instructions(_) => format!("{:.1}", time / 1_000.0),
             Unit::Call => format!("{time:.0}"),
         }
@@ -100,6 +103,7 @@ impl Finding {
             self.name,
             match self.unit {
                 Unit::Step(_) => "ns/step",
+                Unit::Byte(_) => "ns/byte",
                 Unit::Instructions(_) => "us/call",
                 Unit::Call => "ns/call",
             },
@@ -112,12 +116,13 @@ impl Finding {
         ])
     }
 
-    /// The ratio by each build, and by C's fastest verifier with a cursor.
+    /// The ratio by each build, by C's fastest verifier with a cursor and by its fastest
+    /// run with memmove.
     fn line_by_build(&self) -> String {
-        let cursor = self.cursor.get(fastest(&self.cursor));
-        let ratios = self.c.iter().chain(cursor);
-        let told = ratios.map(|times| format!("{:.2}", self.ratio_to(times)));
-        row_by_build(self.name, told)
+        let told = |times: &Times| format!("{:.2}", self.ratio_to(times));
+        let others = [&self.cursor, &self.memmove]
+            .map(|builds| builds.get(fastest(builds)).map_or(String::new(), told));
+        row_by_build(self.name, self.c.iter().map(told).chain(others))
     }
 }
 
@@ -153,14 +158,15 @@ pub fn table(findings: &[Finding]) -> String {
 
 fn row_by_build(name: &str, cells: impl Iterator<Item = String>) -> String {
     let cells: String = cells.map(|cell| format!("{cell:>11}")).collect();
-    format!("{name:16}{cells}\n")
+    format!("{}\n", format!("{name:16}{cells}").trim_end())
 }
 
 /// The ratio by each build of the C, a line for each case. C has two verifiers: beside
-/// the one with a bitmap, which the targets speak of, one with a cursor.
+/// the one with a bitmap, which the targets speak of, one with a cursor. So it has two
+/// runs: beside the one that copies byte by byte, one that does so by memmove.
 pub fn by_build(findings: &[Finding]) -> String {
     let builds = peer::BUILDS.iter().map(|build| build.name);
-    let head = builds.chain(["a cursor"]).map(String::from);
+    let head = builds.chain(["a cursor", "memmove"]).map(String::from);
     let lines = findings.iter().map(Finding::line_by_build);
     row_by_build("ratio to C by", head) + &lines.collect::<String>()
 }
@@ -253,6 +259,7 @@ mod tests {
             shipped: None,
             c: vec![times(c), times(c + 1.0)],
             cursor: Vec::new(),
+            memmove: Vec::new(),
             rounds: 5,
         }
     }
@@ -319,6 +326,19 @@ mod tests {
         let line = "counting ns/step 1.00 (0.50..1.50) 1.50 (0.75..2.25) gcc -O3 1.50 5";
         assert_eq!(words(&table(&findings)), line);
         assert_eq!(words(&by_build(&findings)), "counting 3.00 1.50 4.00");
+    }
+
+    #[test]
+    fn a_copy_is_told_by_the_byte_beside_memmove() {
+        let findings = [Finding {
+            unit: Unit::Byte(100),
+            memmove: vec![times(5.0), times(4.0)],
+            ..run("copy-up", 10.0, 20.0)
+        }];
+        let line = "copy-up ns/byte 0.100 (0.050..0.150) 0.200 (0.100..0.300) gcc -O2 2.00 5";
+        assert_eq!(words(&table(&findings)), line);
+        assert_eq!(words(&by_build(&findings)), "copy-up 2.00 2.10 0.40");
+        assert_eq!(targets(&findings), "");
     }
 
     #[test]

@@ -91,6 +91,19 @@ pub fn table() -> Vec<u8> {
     data
 }
 
+/// The bytes that [`copy`] copies.
+pub const COPIED: u16 = 30_000;
+
+/// Copies bytes of data once.
+pub fn copy(to: u16, from: u16) -> Vec<u8> {
+    let mut program = vec![0xDE]; // push-values, three of two bytes
+    for operand in [COPIED, from, to] {
+        program.extend(operand.to_le_bytes());
+    }
+    program.extend([0x02, 0x00]); // dcopy, halt
+    program
+}
+
 /// Every form of push-values ten times over, 980 values, and a halt.
 pub fn pushes() -> Vec<u8> {
     let mut program = Vec::new();

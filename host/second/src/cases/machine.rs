@@ -17,6 +17,8 @@
 
 mod case;
 
+use std::collections::BTreeSet;
+
 use super::assembler::assemble;
 use super::lent::Lent;
 use super::programs::{
@@ -41,6 +43,7 @@ pub fn vectors() -> Vectors {
     data_about_256(&mut vectors);
     sums_past_16_bits(&mut vectors);
     copies(&mut vectors);
+    overlaps(&mut vectors);
     jumps(&mut vectors);
     functions(&mut vectors);
     budgets(&mut vectors);
@@ -310,6 +313,39 @@ fn copies(vectors: &mut Vectors) {
             let about = case(&[first]).data(1).stack(&stack, 1);
             about.budget(1).add(vectors);
         }
+    }
+}
+
+/// Copies inside data, up and down, whose ranges share no byte, one, half of
+/// them, all but one and all, from the lowest byte and up to the highest; of
+/// nothing, of a few and of as many as there are.
+fn overlaps(vectors: &mut Vectors) {
+    for length in [9, 256] {
+        for count in [0, 1, 2, length / 2, length / 2 + 1, length - 1, length] {
+            let apart = [0, 1, count / 2, count - count.min(1), count];
+            let apart = apart.into_iter().filter(|apart| count + apart <= length);
+            for apart in apart.collect::<BTreeSet<usize>>() {
+                copy_both_ways(vectors, length, 0, apart, count);
+                copy_both_ways(vectors, length, length - count - apart, apart, count);
+            }
+        }
+    }
+    for (apart, count) in [
+        (DATA_BYTES, 0),
+        (32_767, 32_768),
+        (1, DATA_BYTES - 1),
+        (0, DATA_BYTES),
+    ] {
+        copy_both_ways(vectors, DATA_BYTES, 0, apart, count);
+    }
+}
+
+/// A copy up from a place to one so far apart, and one down.
+fn copy_both_ways(vectors: &mut Vectors, length: usize, low: usize, apart: usize, count: usize) {
+    for (a, b) in [(low + apart, low), (low, low + apart)] {
+        let stack = [a, b, count].map(|value| value as u16);
+        let about = case(&[0x02]).data(length).stack(&stack, 0);
+        about.budget(1).add(vectors);
     }
 }
 
@@ -615,7 +651,7 @@ mod tests {
     fn the_cases_stay_few() {
         let vectors = vectors();
         assert!(vectors.stdin.len() < 400_000);
-        assert!(vectors.stdout.len() < 1_500_000);
+        assert!(vectors.stdout.len() < 3_000_000);
         let (ok, refused) = (vectors.answers("ok "), vectors.answers("refused "));
         assert_eq!(ok + refused, vectors.cases());
     }

@@ -12,7 +12,7 @@ use conform::{Engine, Proved, Second};
 use trials::{described, trial, Cases, Difference, Planted};
 
 const HELP: &str = "\
-usage: differ [--plant | --print] SEED COUNT [FIRST]
+usage: differ [--plant ERROR | --print] SEED COUNT [FIRST]
 
 Makes COUNT cases of the conformance protocol from SEED, the first of them number
 FIRST (0 if it is left out), asks the proved library and the second implementation
@@ -20,9 +20,10 @@ each of them, and compares the answers. Differences are printed with their numbe
 `differ SEED 1 NUMBER` asks one case again. At the end stands a table of the proved
 library's answers.
 
-  --plant  the second implementation with a planted error: one kind of load adds its
-           operands modulo 65,536
-  --print  prints the cases and asks nobody, for `khx conform`
+  --plant ERROR  the second implementation with a planted error: sum, one kind of load
+                 adds its operands modulo 65,536; copy, dcopy reads bytes that it has
+                 written
+  --print        prints the cases and asks nobody, for `khx conform`
 
 Exit status: 0 no difference, 1 a difference, 2 bad usage.
 ";
@@ -33,7 +34,7 @@ const PRINTED: u64 = 20;
 struct Task {
     seed: u64,
     numbers: Range<u64>,
-    plant: bool,
+    plant: Option<Planted>,
     print: bool,
 }
 
@@ -45,7 +46,7 @@ fn main() -> ExitCode {
     }
     match task(words) {
         None => {
-            eprintln!("differ: usage: differ [--plant | --print] SEED COUNT [FIRST]");
+            eprintln!("differ: usage: differ [--plant ERROR | --print] SEED COUNT [FIRST]");
             ExitCode::from(2)
         }
         Some(task) if task.print => match print(&task) {
@@ -57,11 +58,17 @@ fn main() -> ExitCode {
 }
 
 fn task(mut words: Vec<String>) -> Option<Task> {
-    let mut option = |name: &str| {
-        let place = words.iter().position(|word| word == name);
-        place.map(|place| words.remove(place)).is_some()
+    let plant = match words.first().map(String::as_str) {
+        Some("--plant") => {
+            let word = words.drain(..words.len().min(2)).nth(1)?;
+            Some(Planted::ALL.into_iter().find(|it| it.name() == word)?)
+        }
+        _ => None,
     };
-    let (plant, print) = (option("--plant"), option("--print"));
+    let print = words.first().map_or(false, |word| word == "--print");
+    if print {
+        words.remove(0);
+    }
     let numbers: Option<Vec<u64>> = words.iter().map(|word| word.parse().ok()).collect();
     let (seed, count, first) = match numbers?[..] {
         [seed, count] => (seed, count, 0),
@@ -69,7 +76,7 @@ fn task(mut words: Vec<String>) -> Option<Task> {
         _ => return None,
     };
     let numbers = first..first.checked_add(count)?;
-    (!(plant && print)).then_some(Task {
+    (plant.is_none() || !print).then_some(Task {
         seed,
         numbers,
         plant,
@@ -89,9 +96,9 @@ fn print(task: &Task) -> io::Result<()> {
 
 /// Asks and compares; gives the number of differences.
 fn compare(task: &Task) -> u64 {
-    let second: &dyn Engine = match task.plant {
-        true => &Planted,
-        false => &Second,
+    let second: &dyn Engine = match &task.plant {
+        Some(planted) => planted,
+        None => &Second,
     };
     let start = Instant::now();
     let mut progress = Progress::new(start);

@@ -1,69 +1,52 @@
--- `copies::data_copy::copy_bytes` meets its contract. The invariant: what is left to copy from here leaves what the whole copy leaves.
--- The measure is the number of bytes left.
+-- `copies::data_copy::copy_bytes` meets its contract: each order is taken where it keeps what is still to be read.
 -- Assumes nothing.
-use Prim.Native.Nat.{_+_, _≤_}
-use mathlib.Core.Path.{_≡_, refl, sym, _∙_}
 use native.Mathlib.Omega.{arith}
-use lib.ListN.{length, length-set}
-use Rattle.effects.specs.Memory.{copied}
-use Rattle.copies.proofs.Copies.{copied-none, copied-more}
+use mathlib.Core.Logic.{inl, inr}
+use borrow.Author.Needs.{needs}
 use Rattle.copies.proofs.data_copy.copy_bytes.Statement.{statement}
 use Rattle.copies.proofs.data_copy.copy_bytes.Tie as tie
 
-abbrev Inv-loop : tie.InvT-loop
-Inv-loop to from count data₀ target₀ source₀ left₀ «data» target source left =
-    (target + left ≤ length «data») × ((source + left ≤ length «data») × ((length «data» ≡ length data₀) × (copied left target source «data» ≡ copied count to from data₀)))
+lowest-first-requires : tie.Need-lowest-first-requires
+lowest-first-requires c κs = search needs
 
-abbrev μ-loop : tie.MeasureT-loop
-μ-loop to from count data₀ target₀ source₀ left₀ «data» target source left = left
+sum-requires : tie.Need-sum-requires
+sum-requires c κs = search needs
 
-loop-holds : tie.Need-loop-holds Inv-loop μ-loop
-loop-holds c = (omega arith, (omega arith, (refl, refl)))
+lowest-first-requires-2 : tie.Need-lowest-first-requires-2
+lowest-first-requires-2 c κs = search needs
 
-slice-read-data : tie.Need-slice-read-data Inv-loop μ-loop
-slice-read-data c = omega arith
+highest-first-requires : tie.Need-highest-first-requires
+highest-first-requires c κs = search needs
 
-slice-write-data : tie.Need-slice-write-data Inv-loop μ-loop
-slice-write-data c = omega arith
+same-length : tie.Need-same-length
+same-length c = search needs
 
-add-target : tie.Need-add-target Inv-loop μ-loop
-add-target c = omega arith
+returns : tie.Need-returns
+returns c = c .before .before .lowest-first .ensures (inl (omega arith))
 
-add-source : tie.Need-add-source Inv-loop μ-loop
-add-source c = omega arith
+same-length-2 : tie.Need-same-length-2
+same-length-2 c = search needs
 
-sub-left : tie.Need-sub-left Inv-loop μ-loop
-sub-left c = omega arith
+returns-2 : tie.Need-returns-2
+returns-2 c = c .before .before .lowest-first2 .ensures (inr (omega arith))
 
-loop-less : tie.Need-loop-less Inv-loop μ-loop
-loop-less c = omega arith
+same-length-3 : tie.Need-same-length-3
+same-length-3 c = search needs
 
-loop-again : tie.Need-loop-again Inv-loop μ-loop
-loop-again c =
-    let l = c .before .before .loop in
-    (simp length-set (omega arith), (simp length-set (omega arith), (simp length-set (omega arith), sym (copied-more (l .left) (l .target) (l .source) (l .«data») (omega arith)) ∙ l .inv .1 .1 .1)))
-
-same-length : tie.Need-same-length Inv-loop μ-loop
-same-length c = omega arith
-
-returns : tie.Need-returns Inv-loop μ-loop
-returns c =
-    let l = c .before .loop in
-    sym (copied-none (l .left) (l .target) (l .source) (l .«data») (omega arith)) ∙ l .inv .1 .1 .1
+returns-3 : tie.Need-returns-3
+returns-3 c = c .before .before .highest-first .ensures (omega arith)
 
 pub copy-bytes-spec : {M : Type 1} → statement M
 copy-bytes-spec =
     tie.close
     (tie.spec
-    Inv-loop
-    μ-loop
-    loop-holds
-    slice-read-data
-    slice-write-data
-    add-target
-    add-source
-    sub-left
-    loop-less
-    loop-again
+    lowest-first-requires
+    sum-requires
+    lowest-first-requires-2
+    highest-first-requires
     same-length
-    returns)
+    returns
+    same-length-2
+    returns-2
+    same-length-3
+    returns-3)
