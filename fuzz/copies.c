@@ -29,7 +29,7 @@ static uint16_t take_place(input *from, size_t size)
     return any < 0xE000 ? any % (size + 2) : any;
 }
 
-/* How many: mostly as many as there are bytes from a place on, or fewer. */
+/* How many: mostly no more than one over the bytes from a place on. */
 static uint16_t take_count(input *from, size_t size, uint16_t place)
 {
     return take_place(from, size > place ? size - place : 0);
@@ -78,6 +78,17 @@ static void promise_copied(input *from, const machine *one, const lent *source, 
     notice(COPIED, up + 2 * (source == &one->data && apart < given.count));
 }
 
+/* The state is handed back, with a fault's number where there is one, and no memory is altered. */
+static void promise_not_copied(khx_ran ran, khx_state state, size_t fault, const machine *one)
+{
+    if (fault != 0) {
+        state.status = KHX_FAULTED;
+        state.fault = fault;
+    }
+    promise(ran.steps == 0 && same_state(ran.state, state), "a copy that is refused or past a range alters at most the status, by the range's number, the target's first");
+    promise_memories_kept(one);
+}
+
 void try_copy(input *from)
 {
     uint8_t code = take_byte(from) & 1 ? PROGRAM_COPY : DATA_COPY;
@@ -88,20 +99,14 @@ void try_copy(input *from)
     operands given = take_operands(from, one.data.size, source->size);
     uint16_t cells[OPERANDS] = {given.to, given.from, given.count};
     one.cells = lend_copy(from, cells, sizeof cells);
-    khx_state before = {0, OPERANDS, KHX_RUNNING, 0};
-    khx_state after = {1, 1, KHX_RUNNING, 0};
+    khx_state before = {0, OPERANDS, KHX_RUNNING, 0}, after = {1, 1, KHX_RUNNING, 0};
     khx_ran ran = run(&one, before, 1);
     size_t fault = fault_of(&one, source, given);
     promise(ran.refusal == refusal_of(&one, before), "a copy is refused as a run is");
-    if (ran.refusal == 0 && fault == 0) {
-        promise(ran.steps == 1 && same_state(ran.state, after), "a copy inside both ranges is a step");
-        promise_copied(from, &one, source, given);
+    if (ran.refusal != 0 || fault != 0) {
+        promise_not_copied(ran, before, ran.refusal == 0 ? fault : 0, &one);
         return;
     }
-    if (ran.refusal == 0) {
-        before.status = KHX_FAULTED;
-        before.fault = fault;
-    }
-    promise(ran.steps == 0 && same_state(ran.state, before), "a copy past a range faults by the range's number, the target's first");
-    promise_memories_kept(&one);
+    promise(ran.steps == 1 && same_state(ran.state, after), "a copy inside both ranges is a step");
+    promise_copied(from, &one, source, given);
 }

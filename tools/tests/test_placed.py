@@ -8,12 +8,13 @@ import tempfile
 import unittest
 
 PLACED = pathlib.Path(__file__).resolve().parent.parent / "placed"
-# Two jumps lead to the head, which ends with the first jump by a table; one leads elsewhere.
+# Two jumps lead to the head, which ends with the first jump by a table behind it; one leads elsewhere, and a jump by a table stands before it.
 RUN = """.section .text.khx_run,"ax",@progbits
 .p2align 4
 .globl khx_run
 khx_run:
-    .skip BEFORE, 0x90
+    jmp *%rbx
+    .skip BEFORE - 2, 0x90
 1:  decl %eax
     .skip HEAD, 0x90
     jmp *%rdx
@@ -62,27 +63,32 @@ class Placed(unittest.TestCase):
         return self.place(run_)
 
     def test_the_run_is_laid_at_the_first_place_that_keeps_its_head_in_a_line(self):
-        self.assertEqual(self.laid(0, 60), 0)
+        self.assertEqual(self.laid(64, 60), 0)
         self.assertEqual(self.laid(20, 40), 0)
         self.assertEqual(self.laid(21, 40), 48)
         self.assertEqual(self.laid(40, 44), 32)
         self.assertEqual(self.laid(62, 44), 16)
+
+    def test_it_is_laid_elsewhere_where_none_of_the_four_places_will_do(self):
+        self.assertEqual(self.laid(8, 55), 56)
+        self.assertEqual(self.laid(20, 60), 44)
 
     def test_a_head_across_two_lines_is_noticed(self):
         self.assertFalse(self.lies(self.assembled(run(40, 44))))
         self.assertFalse(self.lies(self.assembled(run(40, 44).replace(".p2align 4", ".p2align 6"))))
 
     def test_a_place_without_its_alignment_is_noticed(self):
-        self.assertTrue(self.lies(self.assembled(run(0, 44).replace(".p2align 4", ".p2align 6"))))
-        self.assertFalse(self.lies(self.assembled(run(0, 44))))
+        self.assertTrue(self.lies(self.assembled(run(2, 44).replace(".p2align 4", ".p2align 6"))))
+        self.assertFalse(self.lies(self.assembled(run(2, 44))))
 
     def test_a_head_that_no_place_keeps_in_a_line_is_refused(self):
-        for text in [run(0, 61), run(8, 55), run(0, 44).replace("jmp *", "notq ")]:
+        for text in [run(2, 61), run(2, 44).replace("jmp *", "notq ")]:
             refused = subprocess.run([PLACED, self.assembled(text)], check=False, capture_output=True, text=True)
-            self.assertEqual((refused.returncode, refused.stderr), (1, "placed: no place keeps the head of khx_run's loop in one line\n"))
+            self.assertEqual(refused.returncode, 1)
+            self.assertIn("no place keeps the head of khx_run's loop in one line", refused.stderr)
 
     def test_an_object_without_the_run_stays_as_it_is(self):
-        other = self.assembled(run(0, 44).replace("khx_run", "khx_list"))
+        other = self.assembled(run(2, 44).replace("khx_run", "khx_list"))
         before = other.read_bytes()
         subprocess.run([PLACED, other], check=True)
         self.assertEqual(other.read_bytes(), before)

@@ -73,10 +73,12 @@ fn step_by_sum(program: &[u8], data: &mut [u8], stack: &mut [u16], state: State)
 
 /// A step in which dcopy reads bytes that it has written.
 fn step_by_copy(program: &[u8], data: &mut [u8], stack: &mut [u16], state: State) -> Ran {
-    let before = (data.to_vec(), stack.to_vec());
+    if !is_at(DATA_COPY, program, state) {
+        return Second.step(program, data, stack, state);
+    }
+    let (bytes, cells) = (data.to_vec(), stack.to_vec());
     let ran = Second.step(program, data, stack, state);
-    if is_at(DATA_COPY, program, state) && ran.steps == Ok(1) {
-        let (bytes, cells) = before;
+    if ran.steps == Ok(1) {
         let top = cells.len() - state.depth;
         let [to, from, count] = [0, 1, 2].map(|operand| usize::from(cells[top + operand]));
         data.copy_from_slice(&bytes);

@@ -293,6 +293,24 @@ mod tests {
     }
 
     #[test]
+    fn the_copies_move_all_their_bytes() {
+        let copied = usize::from(programs::COPIED);
+        for (name, to, from) in [
+            ("copy-up", 12, 0),
+            ("copy-down", 0, 12),
+            ("copy-apart", copied, 0),
+        ] {
+            let outcome = case(name).outcome(Side::Proved, 0);
+            let [refusal, steps, _, depth, status] = outcome.answer;
+            let ended = (refusal, steps, depth, status);
+            assert_eq!(ended, (0, 3, 1, peer::HALTED), "{name}");
+            let mut moved = programs::table();
+            moved.copy_within(from..from + copied, to);
+            assert_eq!(outcome.bytes, moved, "{name}");
+        }
+    }
+
+    #[test]
     fn the_shipped_rules_find_the_real_tables_good() {
         assert_eq!(steps_to_good("loca"), 152_117);
         let steps = steps_to_good("short");
