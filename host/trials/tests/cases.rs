@@ -7,7 +7,7 @@ use conform::{answer, Second, LINE_MAX};
 use trials::{Cases, Kind, Tally, COPIED, NO_CASE};
 
 const SEED: u64 = 1;
-/// The rarest answer, 20 of a reader, comes about eleven times in so many.
+/// The rarest answer, 21 of a step, comes about five times in so many.
 const COUNT: u64 = 200_000;
 
 fn lines() -> impl Iterator<Item = Vec<u8>> {
