@@ -30,6 +30,14 @@ static void promise_encodes_back(khx_decoded got, const uint8_t *code)
             "what decodes encodes back to the same bytes");
 }
 
+static void promise_as_its_row(khx_decoded got, uint8_t first)
+{
+    khx_row row = khx_shape(first);
+    promise(got.refusal == 0 || got.refusal == KHX_ILLEGAL || got.refusal == KHX_CUT, "decoding is refused by 2 or 3");
+    promise(row.refusal == 0 || got.refusal == KHX_ILLEGAL, "with a byte whose row is refused no instruction begins");
+    promise(got.refusal != 0 || got.length == row.length, "an instruction is as long as the row of its first byte says");
+}
+
 static void promise_decoded(khx_decoded got, const lent *program, size_t at)
 {
     if (program->size > KHX_PROGRAM_MAX)
@@ -37,7 +45,7 @@ static void promise_decoded(khx_decoded got, const lent *program, size_t at)
     else if (at >= program->size)
         promise(got.refusal == KHX_END, "decoding past the end is refused by 1");
     else
-        promise(got.refusal == 0 || got.refusal == KHX_ILLEGAL || got.refusal == KHX_CUT, "decoding is refused by 2 or 3");
+        promise_as_its_row(got, *place_in(program, at));
     if (got.refusal != 0) {
         promise_refused(got);
         return;

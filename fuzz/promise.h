@@ -13,6 +13,7 @@ typedef enum kind {
     DECODED,
     READ,
     ENCODED,
+    SHAPED,
     RAN,
     FAULTED,
     STOPPED_ON,

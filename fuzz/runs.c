@@ -178,6 +178,19 @@ static khx_ran step(const machine *one, khx_state state)
     return ran;
 }
 
+/* A step takes and pushes what the row of its first byte says; faults 4 and 5 are for what does not fit. */
+static void promise_by_row(khx_ran ran, khx_state before, const machine *one)
+{
+    if (before.status != KHX_RUNNING || before.address >= one->program.size)
+        return;
+    khx_row row = khx_shape(one->program.bytes[before.address]);
+    bool few = before.depth < row.taken;
+    size_t depth = before.depth - row.taken + row.pushed;
+    promise(ran.steps == 0 || (row.refusal == 0 && !few && ran.state.depth == depth), "a step takes and pushes as its row says");
+    promise(ran.state.fault != KHX_FEW || few, "fault 4 is for fewer values than the row takes");
+    promise(ran.state.fault != KHX_FULL || (!few && depth > cells_count(one)), "fault 5 is for more values than there are cells");
+}
+
 /* Some steps one by one, against a run of as many. */
 void try_step(input *from)
 {
@@ -189,6 +202,7 @@ void try_step(input *from)
     for (uint8_t i = 0; i < count; i++) {
         khx_ran ran = step(&one, steps.state);
         promise(ran.steps <= 1 && ran.refusal == steps.refusal, "a step is one step, refused as a run is");
+        promise_by_row(ran, steps.state, &one);
         steps.steps += ran.steps;
         steps.state = ran.state;
     }

@@ -7,6 +7,7 @@
 void try_decode(input *from);
 void try_read(input *from);
 void try_encode(input *from);
+void try_shape(input *from);
 void try_run(input *from);
 void try_step(input *from);
 void try_verify(input *from);

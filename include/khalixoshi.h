@@ -89,6 +89,17 @@ typedef struct khx_decoded {
     khx_instruction instruction;
 } khx_decoded;
 
+/*
+ * What all instructions with the same first byte have: their length in bytes, 1 to KHX_INSTRUCTION_MAX, and how many values they
+ * take from the stack, at most 3, and push, at most 4. Where no instruction begins with the byte the refusal is 2.
+ */
+typedef struct khx_row {
+    size_t refusal;
+    size_t length;
+    size_t taken;
+    size_t pushed;
+} khx_row;
+
 /* What was written into a room: so many bytes at its start; those after them are as they were. */
 typedef struct khx_written {
     size_t refusal;
@@ -147,6 +158,12 @@ khx_decoded khx_read(const uint8_t *program, size_t program_length, size_t *at);
 
 /* Writes an instruction; KHX_INSTRUCTION_MAX bytes of room are enough. Refusals: 26, 25. */
 khx_written khx_encode(khx_instruction instruction, uint8_t *room, size_t room_length);
+
+/*
+ * One row of the table of all 256 first bytes: an instruction's length and what it does to the depth, told by its first byte
+ * alone. A shift's second byte is not in it: over 15, khx_decode refuses 31 and 32 by 2 as well. Refusal: 2.
+ */
+khx_row khx_shape(uint8_t first);
 
 /* The state with which a program starts: address 0, depth 0, running. */
 static inline khx_state khx_fresh(void)

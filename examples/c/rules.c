@@ -153,6 +153,17 @@ static void fields(void)
            (unsigned)i.count, (unsigned)i.flags, (unsigned)i.v0, (unsigned)i.v1, (unsigned)i.v2, (unsigned)i.v3);
 }
 
+/* A row that tells each field from the others, and one of a byte with which no instruction begins. */
+static void rows(void)
+{
+    const uint8_t first[] = {0x53, 0x5B};
+    for (size_t i = 0; i < sizeof first; i++) {
+        khx_row row = khx_shape(first[i]);
+        printf("%02X: refusal %zu, length %zu, takes %zu, pushes %zu\n", (unsigned)first[i], row.refusal, row.length, row.taken,
+               row.pushed);
+    }
+}
+
 /* A status that is none does not run, and comes back faulted. */
 static void no_status(void)
 {
@@ -176,6 +187,7 @@ int main(void)
     trace(DIFFERENCE, sizeof DIFFERENCE);
     copy(COUNTDOWN, sizeof COUNTDOWN);
     fields();
+    rows();
     no_status();
     return 0;
 }

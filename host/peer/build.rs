@@ -17,7 +17,13 @@ const C: [(&str, &str); 5] = [
     ("peer_run_memmove", "run_memmove"),
 ];
 /// The proved library's.
-const PROVED: [&str; 3] = ["khx_run", "khx_verify", "khx_pack_check"];
+const PROVED: [&str; 5] = [
+    "khx_run",
+    "khx_verify",
+    "khx_pack_check",
+    "khx_read",
+    "khx_list",
+];
 /// How far past a multiple of `LINE` the copies of a function begin.
 const PLACES: [usize; 4] = [0, 16, 32, 48];
 const LINE: usize = 64;

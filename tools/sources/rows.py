@@ -1,78 +1,46 @@
-"""The table of first bytes and the names, read from their definitions: crates/isa/specs/Rows.antt and crates/names/specs/Names.antt."""
+"""The table of first bytes and the names, as they stand in the sources: the bytes of crates/shapes/src/lib.rt, which are proved to be the table that the
+opcode definition gives, and the list of crates/names/specs/Names.antt."""
 import re
 
 from sources import crates
 
-ROWS = crates.TOP / "crates" / "isa" / "specs" / "Rows.antt"
+TABLE = crates.TOP / "crates" / "shapes" / "src" / "lib.rt"
 NAMES = crates.TOP / "crates" / "names" / "specs" / "Names.antt"
 ILLEGAL = "illegal"
-TOKEN = re.compile(r'"[^"]*"|[()]|∷|\+\+|\[\]|[^\s()]+')
 
 
 class Unread(Exception):
-    """A definition in a form that is not read here."""
+    """A table or a list in a form that is not read here."""
 
 
-class Computed:
-    """The values of a module's definitions: numbers, texts, rows, and lists of these."""
+def only(form, text, what):
+    """The parts of the one place in a text that has this form."""
+    found = list(re.finditer(form, text, re.MULTILINE))
+    if len(found) != 1:
+        raise Unread(f"{what} is not in the form that is read here")
+    return found[0].groups()
 
-    def __init__(self, text):
-        self.defined = {}
-        bare = re.sub(r"^\s*--[^\n]*\n", "", text, flags=re.MULTILINE)
-        for name, parameters, right in re.findall(r"^([\w-]+)((?: [\w-]+)*) =((?:.*\n)(?: +\S.*(?:\n|\Z))*)", bare, re.MULTILINE):
-            self.defined[name] = (parameters.split(), TOKEN.findall(right))
 
-    def value(self, name, arguments=()):
-        """A definition, or a constructor or function of the lists, at its arguments."""
-        if name == "row":
-            return tuple(arguments)
-        if name == ILLEGAL:
-            return ILLEGAL
-        if name == "replicate":
-            return [arguments[1]] * arguments[0]
-        if name not in self.defined or len(self.defined[name][0]) != len(arguments):
-            raise Unread(f"`{name}` is not defined by an equation that is read here")
-        parameters, tokens = self.defined[name]
-        left = list(tokens)
-        made = self.term(left, dict(zip(parameters, arguments)))
-        if left:
-            raise Unread(f"`{left[0]}` in `{name}` is not read here")
-        return made
+def rows_in(source):
+    """The rows of the table in a source."""
+    size, lines = only(r'^const ROWS: \[u8; (\d+)\] = \*b"\\\n((?:(?:\\x[0-9a-f]{2})+\\\n)+)";$', source, "the table of first bytes")
+    numbers = [int(digits, 16) for digits in re.findall(r"\\x(..)", lines)]
+    if len(numbers) != int(size) or len(numbers) % 3 != 0:
+        raise Unread(f"the table of first bytes has {len(numbers)} numbers")
+    return [row if row[0] > 0 else ILLEGAL for row in zip(numbers[0::3], numbers[1::3], numbers[2::3])]
 
-    def term(self, tokens, known):
-        """An application, then perhaps ∷ or ++ and the rest of a list."""
-        head, arguments = tokens[0], []
-        first = self.atom(tokens, known) if head in known or not re.match(r"[A-Za-z]", head) else tokens.pop(0) and None
-        while tokens and tokens[0] not in (")", "∷", "++"):
-            arguments.append(self.atom(tokens, known))
-        left = first if first is not None else self.value(head, arguments)
-        if first is not None and arguments:
-            raise Unread(f"`{head}` is applied")
-        if tokens and tokens[0] in ("∷", "++"):
-            sign = tokens.pop(0)
-            rest = self.term(tokens, known)
-            return [left] + rest if sign == "∷" else left + rest
-        return left
 
-    def atom(self, tokens, known):
-        token = tokens.pop(0)
-        if token == "(":
-            made = self.term(tokens, known)
-            if not tokens or tokens.pop(0) != ")":
-                raise Unread("a bracket is not closed")
-            return made
-        if token == "[]":
-            return []
-        if token.startswith('"'):
-            return token.strip('"')
-        if re.fullmatch(r"0x[0-9A-Fa-f]+|\d+", token):
-            return int(token, 0)
-        return known[token] if token in known else self.value(token)
+def names_in(definitions):
+    """The names of the list in some definitions."""
+    lines = only(r"^names =\n((?: +\S.*\n)+)", definitions, "the list of names")[0]
+    bare = " ".join(re.sub(r"^ +--.*$", "", lines, flags=re.MULTILINE).split())
+    names = only(r'^((?:"[^"]*" ∷ )+)\[\]$', bare, "the list of names")[0]
+    return re.findall(r'"([^"]*)"', names)
 
 
 def rows():
     """Of each first byte: length, taken, pushed; or ILLEGAL."""
-    read = Computed(ROWS.read_text(encoding="utf-8")).value("rows")
+    read = rows_in(TABLE.read_text(encoding="utf-8"))
     if len(read) != 256:
         raise Unread(f"{len(read)} rows")
     return read
@@ -80,7 +48,7 @@ def rows():
 
 def names():
     """The name of each first byte that can begin an instruction: the codes 00 to 5A, then 80 and C0, which stand for 80 to BF and C0 to FF."""
-    read = Computed(NAMES.read_text(encoding="utf-8")).value("names")
+    read = names_in(NAMES.read_text(encoding="utf-8"))
     if len(read) != 0x5D:
         raise Unread(f"{len(read)} names")
     return {byte: read[0x5B if 0x80 <= byte < 0xC0 else 0x5C if byte >= 0xC0 else byte] for byte in range(256) if not 0x5B <= byte < 0x80}

@@ -100,13 +100,18 @@ pub fn f(n: u8) -> u8
     n + 0
 }
 """
-TABLE = """abbrev pub twice : ℕ → List Row → List Row
-twice n rest = replicate n (row 1 2 3) ++ rest
+TABLE = r"""const ROWS: [u8; 9] = *b"\
+\x01\x00\x00\x00\x00\x00\
+\x10\x02\x01\
+";
+"""
+NAMES = """abbrev pub names : List String
+names =
+    -- 00
+    "halt" ∷ "jump-if"
+    ∷ "push-u8" ∷ []
 
-rows =
-    -- a comment
-    row 1 0 0 ∷ illegal
-    ∷ twice 2 (row 0x10 0 1 ∷ [])
+other = 1
 """
 DIFFER = "proofs/f/Proof.antt:1:1: error: `returns`: computed as far as they go, the two types first differ where one has `{}` (expected) and the other has `{}` (found)"
 ARE = "proofs/f/Proof.antt:1:1: error: `returns`: computed as far as they go, the two types are `{}` (expected) and `{}` (found)"
@@ -191,26 +196,41 @@ class Pages(Case):
         self.assertEqual(statements.of_crates(text), [("b", "four"), ("b", "five")])
 
     def test_rows(self):
-        read = rows.Computed(TABLE)
-        self.assertEqual(read.value("rows"), [(1, 0, 0), rows.ILLEGAL, (1, 2, 3), (1, 2, 3), (16, 0, 1)])
-        with self.assertRaises(rows.Unread):
-            rows.Computed("rows = other 1\n").value("rows")
+        self.assertEqual(rows.rows_in(TABLE), [(1, 0, 0), rows.ILLEGAL, (16, 2, 1)])
+        for text in ("", TABLE + TABLE, TABLE.replace("9", "12"), TABLE.replace("\\x10", ""), TABLE.replace("x01", "t")):
+            with self.assertRaises(rows.Unread, msg=text):
+                rows.rows_in(text)
+
+    def test_names(self):
+        self.assertEqual(rows.names_in(NAMES), ["halt", "jump-if", "push-u8"])
+        for text in ("", NAMES.replace("∷ []", "++ more"), NAMES.replace('"jump-if"', "jump")):
+            with self.assertRaises(rows.Unread, msg=text):
+                rows.names_in(text)
+
+    def noticed(self, page, check, altered):
+        """A page of docs/ is right, and each altered one is not."""
+        text = (crates.TOP / "docs" / page).read_text(encoding="utf-8")
+        self.assertEqual(list(check(text)), [])
+        for old, new in altered:
+            self.assertIn(old, text)
+            self.assertTrue(list(check(text.replace(old, new, 1))), msg=new)
 
     def test_guide(self):
-        guide = (crates.TOP / "docs" / "GUIDE.md").read_text(encoding="utf-8")
-        pages = command("pages")
-        for old, new in (
-            ("| 04 | swap | 1 | 2 | 2 |", "| 04 | swap | 1 | 2 | 1 |"), ("inc dec not neg", "inc dec neg not"),
-            ("| 1 + count + set flags |", "| 1 + count |"), ("80 to BF", "81 to BF"), ("| 2 / 3 | 0 | 0 |", "| 2 / 2 | 0 | 0 |"),
-        ):
-            self.assertIn(old, guide)
-            self.assertTrue(list(pages.instructions(guide.replace(old, new, 1))), msg=new)
+        self.noticed("GUIDE.md", command("pages").instructions, (
+            ("inc dec not neg", "inc dec neg not"), ("80 to BF", "81 to BF"), ("| 5B to 7F |", "| 5C to 7F |"),
+            ("3C / 56 | jump-imm8 / jump-imm16", "3C / 56 | jump-imm8"), ("| illegal |", "| push-u8 |"), ("| name and meaning |", "| name |"),
+        ))
 
+    def test_shapes(self):
+        self.noticed("SHAPES.md", command("pages").shapes, (
+            ("| 04 | swap | 1 | 2 | 2 |", "| 04 | swap | 1 | 2 | 1 |"), ("| 1A | dec |", "| 1A | inc |"), ("| 5B | illegal | | | |\n", ""),
+            ("| C8 | illegal | | | |", "| C8 | push-values | 3 | 0 | 1 |"), ("| FF | push-values | 9 | 0 | 4 |\n", ""),
+        ))
 
     def test_theorems(self):
         said = command("pages").said_of_theorems
-        self.assertEqual(list(said("by `decodeOf`, `rows-right` and `jump-if`, the crate `isa`")), [])
-        self.assertEqual(list(said("by `decodesOf` and `rows-left`")), ["`decodesOf` is declared nowhere", "`rows-left` is declared nowhere"])
+        self.assertEqual(list(said("by `decodeOf`, `list-max` and `jump-if`, the crate `isa`")), [])
+        self.assertEqual(list(said("by `decodesOf` and `list-least`")), ["`decodesOf` is declared nowhere", "`list-least` is declared nowhere"])
 
 
 class Edits(Case):

@@ -1,10 +1,13 @@
 -- Instructions as numbers.
 use Prim.Native.Nat.{ℕ}
 use Rattle.basis.specs.Answer.{Answer, given, refused}
-use Rattle.isa.specs.Decode.{Reading}
+use Rattle.decoder.specs.Decode.{Reading}
 use Rattle.isa.specs.declared.Instruction.{Instruction}
 use Rattle.answers.specs.declared.KhxInstruction.{KhxInstruction}
+use Rattle.shapes.specs.declared.Shape.{Shape}
+use Rattle.shapes.specs.declared.Shape.the-variants.{Row, Illegal}
 use Rattle.answers.specs.declared.KhxDecoded.{KhxDecoded}
+use Rattle.answers.specs.declared.KhxRow.{KhxRow}
 
 -- the instruction with the fields of a host's
 abbrev pub instructionOf : KhxInstruction → Instruction
@@ -44,3 +47,8 @@ decodedIn (refused k) = record { refusal = k; length = 0; instruction = noInstru
 -- what a reader gives, and the address where it then stands
 abbrev pub readIn : Answer Reading × ℕ → KhxDecoded × ℕ
 readIn t = (decodedIn (t .0), t .1)
+
+-- the row of a first byte; or 2, by which the decoder refuses it, all else 0
+abbrev pub rowIn : Shape → KhxRow
+rowIn (Row length taken pushed) = record { refusal = 0; length = length; taken = taken; pushed = pushed }
+rowIn Illegal = record { refusal = 2; length = 0; taken = 0; pushed = 0 }

@@ -22,6 +22,15 @@ pub struct KhxDecoded {
     pub instruction: KhxInstruction,
 }
 
+// The row of a first byte: length, values taken, values pushed; refused by 2, and all else 0, where no instruction begins with it.
+#[repr(C)]
+pub struct KhxRow {
+    pub refusal: usize,
+    pub length: usize,
+    pub taken: usize,
+    pub pushed: usize,
+}
+
 // What was written into a room: its length, 0 on a refusal.
 #[repr(C)]
 pub struct KhxWritten {

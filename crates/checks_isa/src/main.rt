@@ -1,9 +1,10 @@
-// Asks the decoder and the encoder every case on standard input and prints every answer, one line each.
+// Asks the decoder, the encoder and the table of shapes every case on standard input and prints every answer, one line each.
 // A case is `D`, the program's length (two bytes), an address (four) and the program; or `E`, a code, a number (two), a
-// count, flags, four values (two each), the room's length (two) and the room. Numbers have their low byte first.
+// count, flags, four values (two each), the room's length (two) and the room; or `S` and a first byte. Numbers have their low byte first.
 use encoder::Encoded;
 use isa::Instruction;
 use libc::STDIN_FILENO;
+use shapes::Shape;
 use vectors::given;
 use vectors::rooms;
 use vectors::said;
@@ -11,7 +12,7 @@ use vectors::said;
 fn decode_case(case: &[u8]) -> usize {
     let n = given::number(case, 1) as usize;
     let address = given::long(case, 3) as usize;
-    said::decoded(isa::decode(given::part(case, 7, n), address));
+    said::decoded(decoder::decode(given::part(case, 7, n), address));
     7 + n
 }
 
@@ -49,6 +50,23 @@ fn encode_case(case: &[u8]) -> usize {
     16 + n
 }
 
+fn say_shape(shape: Shape) {
+    match shape {
+        Shape::Row(length, taken, pushed) => {
+            said::text(b"row");
+            said::number(length);
+            said::number(taken);
+            said::number(pushed);
+        }
+        Shape::Illegal => said::text(b"illegal"),
+    }
+}
+
+fn shape_case(case: &[u8]) -> usize {
+    say_shape(shapes::shape_of(given::byte(case, 1)));
+    2
+}
+
 // The case at the beginning; how many bytes that is, 0 where it is of no kind.
 fn ask_case(case: &[u8]) -> usize {
     let kind = given::byte(case, 0);
@@ -57,6 +75,9 @@ fn ask_case(case: &[u8]) -> usize {
     }
     if kind == 0x45 {
         return encode_case(case);
+    }
+    if kind == 0x53 {
+        return shape_case(case);
     }
     0
 }

@@ -49,7 +49,7 @@ fn list_case(case: &[u8]) -> usize {
 // What stands at an address; at the start it is the first that a new reader gives.
 fn ask_reader(program: &[u8], at: usize) -> usize {
     let turn = reader::asked(program, at);
-    let answer: isa::Decoded = turn.answer;
+    let answer: decoder::Decoded = turn.answer;
     if at == 0 {
         said::decoded(reader::first(program));
     } else {

@@ -18,7 +18,7 @@ use Rattle.forms.specs.Form.{formOf, codeOf, lengthIn, lengthOf, limitIn, count
 use Rattle.forms.specs.declared.Form.{Form}
 use Rattle.forms.specs.declared.Form.the-variants.{Plain, Byte, Shift, Word, Short, Values, Illegal}
 use Rattle.isa.specs.Op.{Op, Push, opIn, opOf}
-use Rattle.isa.specs.Decode.{Reading, numberIn, instructionIn, headOf, decodeOf}
+use Rattle.decoder.specs.Decode.{Reading, numberIn, instructionIn, headOf, decodeOf}
 use Rattle.isa.specs.declared.Instruction.{Instruction}
 use Rattle.effects.specs.Act.{done, doOf, onReading, actOf}
 use Rattle.effects.specs.declared.Move.the-variants.{Fault}

@@ -9,7 +9,7 @@ use Rattle.forms.specs.Form.{formOf, codeOf}
 use Rattle.forms.specs.declared.Form.{Form}
 use Rattle.forms.specs.declared.Form.the-variants.{Plain, Byte, Shift, Word, Short, Values, Illegal}
 use Rattle.isa.specs.Op.{Op, opIn}
-use Rattle.isa.specs.Decode.{headOf}
+use Rattle.decoder.specs.Decode.{headOf}
 use Rattle.effects.specs.Act.{Done, done, doOf, onReading}
 use Rattle.effects.specs.declared.Move.the-variants.{Fault}
 

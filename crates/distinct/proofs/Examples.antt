@@ -3,7 +3,7 @@
 use mathlib.Core.Path.{refl}
 use lib.Count.{ones}
 use Rattle.forms.specs.Form.{formOf, codeOf, lengthOf, valueWidth}
-use Rattle.isa.specs.Decode.{headOf}
+use Rattle.decoder.specs.Decode.{headOf}
 use Rattle.text.specs.Text.{digitOf}
 use Rattle.names.specs.Names.{placeOf, nameOf}
 use Rattle.lines.specs.Line.{operandsOf, saidOf, lineOf}

@@ -18,7 +18,7 @@ use Rattle.basis.proofs.Numbers.{bytes-drop}
 use Rattle.forms.specs.Form.{formOf, limitIn, valueWidth, width0, width1, width2, width3}
 use Rattle.forms.specs.declared.Form.{Form}
 use Rattle.forms.specs.declared.Form.the-variants.{Plain, Byte, Shift, Word, Short, Values, Illegal}
-use Rattle.isa.specs.Decode.{Reading, headOf}
+use Rattle.decoder.specs.Decode.{Reading, headOf}
 use Rattle.isa.specs.declared.Instruction.{Instruction}
 use Rattle.encoder.specs.Encode.{encodedOf}
 use Rattle.encoder.proofs.Wells.{WellFormed, well, well-count, well-flags}

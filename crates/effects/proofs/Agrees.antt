@@ -17,7 +17,7 @@ use Rattle.basis.proofs.Numbers.{length-bytes}
 use Rattle.basis.proofs.Tests.{false-true, test, same?}
 use Rattle.isa.specs.Op.{Op, opOf}
 use Rattle.isa.specs.Shape.{takenOf, pushedOf, depthAfter}
-use Rattle.isa.specs.Decode.{decodeOf}
+use Rattle.decoder.specs.Decode.{decodeOf}
 use Rattle.isa.specs.declared.Instruction.{Instruction}
 use Rattle.isa.specs.declared.Route.{Route}
 use Rattle.effects.specs.Memory.{operandOf, pushed, good, copied}

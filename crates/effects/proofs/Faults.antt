@@ -11,9 +11,10 @@ use Rattle.basis.specs.Pick.{pick}
 use Rattle.basis.specs.Answer.{Answer, given, refused}
 use Rattle.isa.specs.Op.{Op, opOf}
 use Rattle.isa.specs.Shape.{takenOf, pushedOf, wayOf, depthAfter}
-use Rattle.isa.specs.Decode.{Reading, decodeOf}
+use Rattle.decoder.specs.Decode.{Reading, decodeOf}
 use Rattle.isa.specs.declared.Route.{Route}
-use Rattle.isa.proofs.Numbers.{decode-number, stack-number}
+use Rattle.isa.proofs.Numbers.{stack-number}
+use Rattle.decoder.proofs.Numbers.{decode-number}
 use Rattle.effects.specs.Memory.{operandOf, good}
 use Rattle.effects.specs.Effect.{Effect, fails, leaves, placeOf, routed, effectOf, Going, stays, goes, goingOf}
 use Rattle.effects.specs.Act.{moveOf, onEffect, onStack, doOf, onReading, actOf}
@@ -25,7 +26,7 @@ use Rattle.isa.specs.Op as op
 use Rattle.isa.specs.declared.Route.the-variants as route
 
 -- an effect fails by 6, 7 or 8
-abbrev FailsBy : Effect → Type 0
+abbrev pub FailsBy : Effect → Type 0
 FailsBy (fails n) = (6 ≤ n) × (n ≤ 8)
 FailsBy (leaves mem vs) = Unit {0}
 
@@ -42,7 +43,7 @@ module _ (program mem : List ℕ) (arg : ℕ → ℕ) (next : ℕ) where
   routed-by route.System x = fails-or (eqb x 0) (leaves mem []) (fails 8) tt (omega arith, omega arith)
   routed-by route.Extension x = (omega arith, omega arith)
 
-  effect-by : (o : Op) → FailsBy (effectOf program mem arg next o)
+  pub effect-by : (o : Op) → FailsBy (effectOf program mem arg next o)
   effect-by op.Halt = tt
   effect-by op.Discard = tt
   effect-by op.DataCopy =

@@ -19,7 +19,7 @@ use Rattle.basis.proofs.Tests.{false-true}
 use Rattle.isa.specs.Op.{Op}
 use Rattle.isa.specs.Shape.{takenOf, pushedOf, wayOf}
 use Rattle.isa.specs.Op.{opOf}
-use Rattle.isa.specs.Decode.{decodeOf}
+use Rattle.decoder.specs.Decode.{decodeOf}
 use Rattle.isa.specs.declared.Instruction.{Instruction}
 use Rattle.isa.specs.declared.Route.{Route}
 use Rattle.effects.specs.Memory.{operandOf, pushed, good, copied}

@@ -14,7 +14,7 @@ use Rattle.basis.specs.Answer.{Answer, given, refused}
 use Rattle.basis.specs.Number.{numberAt, bytesOf}
 use Rattle.isa.specs.Op.{Op, opOf}
 use Rattle.isa.specs.Shape.{takenOf, pushedOf, wayOf, depthAfter}
-use Rattle.isa.specs.Decode.{Reading, decodeOf}
+use Rattle.decoder.specs.Decode.{Reading, decodeOf}
 use Rattle.isa.specs.declared.Route.{Route}
 use Rattle.effects.specs.Memory.{good, copied, operandOf}
 use Rattle.effects.specs.Effect.{Effect, fails, leaves, placeOf, copiedFrom, routed, effectOf, Going, stays, goes, goingOf}

@@ -5,7 +5,7 @@ use lib.ListN.{length}
 use Rattle.basis.specs.Answer.{Answer, given, refused}
 use Rattle.isa.specs.Op.{Op, opOf}
 use Rattle.isa.specs.Shape.{takenOf, pushedOf, wayOf, depthAfter}
-use Rattle.isa.specs.Decode.{Reading, decodeOf}
+use Rattle.decoder.specs.Decode.{Reading, decodeOf}
 use Rattle.effects.specs.Memory.{operandOf, pushed}
 use Rattle.effects.specs.Effect.{Effect, fails, leaves, effectOf, Going, stays, goes, goingOf}
 use Rattle.effects.specs.declared.Move.{Move}

@@ -19,7 +19,7 @@ use Rattle.forms.specs.Form.{formOf, codeOf, widthIn, limitIn, countIn, flagsIn
 use Rattle.forms.specs.declared.Form.{Form}
 use Rattle.forms.specs.declared.Form.the-variants.{Plain, Byte, Shift, Word, Short, Values, Illegal}
 use Rattle.forms.proofs.Widths.{count-le, widths-sum, legal, Legal}
-use Rattle.isa.specs.Decode.{Reading, numberIn, withValues, instructionIn, headOf}
+use Rattle.decoder.specs.Decode.{Reading, numberIn, withValues, instructionIn, headOf}
 use Rattle.isa.specs.declared.Instruction.{Instruction}
 use Rattle.encoder.specs.Encode.{countGood, wellFormed, firstIn, valueBytes, bytesIn, encodedOf}
 use Rattle.encoder.proofs.Wells.{well-back}

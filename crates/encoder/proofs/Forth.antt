@@ -16,7 +16,7 @@ use Rattle.basis.proofs.Numbers.{length-bytes, read-back, read-at}
 use Rattle.forms.specs.Form.{formOf, codeOf, widthIn, limitIn, countIn, flagsIn, lengthOf, width0, width1, width2, width3}
 use Rattle.forms.specs.declared.Form.{Form}
 use Rattle.forms.specs.declared.Form.the-variants.{Plain, Byte, Shift, Word, Short, Values, Illegal}
-use Rattle.isa.specs.Decode.{numberIn, instructionIn, headOf}
+use Rattle.decoder.specs.Decode.{numberIn, instructionIn, headOf}
 use Rattle.isa.specs.declared.Instruction.{Instruction}
 use Rattle.encoder.specs.Encode.{countGood, wellFormed, firstIn, valueBytes, bytesIn, encodedOf}
 use Rattle.encoder.proofs.Wells.{well, WellFormed, well-count, well-flags, count-pos, length-encoded, length-well}

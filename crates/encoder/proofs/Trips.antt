@@ -14,7 +14,7 @@ use Rattle.basis.specs.Number.{Bytes}
 use Rattle.basis.specs.Room.{roomAfter}
 use Rattle.basis.proofs.Tests.{refused-given, given-one}
 use Rattle.basis.proofs.Numbers.{bytes-drop}
-use Rattle.isa.specs.Decode.{Reading, headOf, decodeOf}
+use Rattle.decoder.specs.Decode.{Reading, headOf, decodeOf}
 use Rattle.isa.specs.declared.Instruction.{Instruction}
 use Rattle.encoder.specs.Encode.{wellFormed, encodedOf, encodeOf, encodedAnswer}
 use Rattle.encoder.specs.declared.Encoded.{Encoded}

@@ -1,19 +1,22 @@
-// The C face of instructions, each answer as numbers: read at an address, read one after the other, written.
+// The C face of instructions, each answer as numbers: read at an address, read one after the other, written; and the table of shapes.
 ghost use mathlib.Core.Path.{_≡_};
 ghost use lib.ListN.{length};
 ghost use Rattle.basis.specs.Answer.{seen};
 ghost use Rattle.basis.specs.Room.{roomAfter};
-ghost use Rattle.isa.specs.Decode.{decodeOf, decodedAnswer};
+ghost use Rattle.decoder.specs.Decode.{decodeOf, decodedAnswer};
 ghost use Rattle.encoder.specs.Encode.{encodeOf};
 ghost use Rattle.reader.specs.Turn.{turnOf};
 ghost use Rattle.answers.specs.Written.{writtenIn};
-ghost use Rattle.answers.specs.Instructions.{decodedIn, instructionOf, readIn};
+ghost use Rattle.answers.specs.Instructions.{decodedIn, instructionOf, readIn, rowIn};
+ghost use Rattle.shapes.specs.Shapes.{shapeOf};
 use answers::KhxDecoded;
 use answers::KhxInstruction;
+use answers::KhxRow;
 use answers::KhxWritten;
+use decoder::Decoded;
 use encoder::Encoded;
-use isa::Decoded;
 use isa::Instruction;
+use shapes::Shape;
 
 // The decoder's answer as numbers.
 fn decoded_in(answer: Decoded) -> KhxDecoded
@@ -56,7 +59,7 @@ fn decoded_in(answer: Decoded) -> KhxDecoded
 pub extern "C" fn khx_decode(program: &[u8], at: usize) -> KhxDecoded
     ensures { λ r. ⌜ r ≡ decodedIn (decodeOf (now (program .entry)) at) ⌝ }
 {
-    decoded_in(isa::decode(program, at))
+    decoded_in(decoder::decode(program, at))
 }
 
 // The instruction at an address of a program, and the address moved past it; on a refusal it stays.
@@ -89,5 +92,26 @@ pub extern "C" fn khx_encode(fields: KhxInstruction, room: &mut [u8]) -> KhxWrit
     match encoder::encode(instruction, room) {
         Encoded::Written(length) => KhxWritten { refusal: 0, length },
         Encoded::Refused(refusal) => KhxWritten { refusal, length: 0 },
+    }
+}
+
+// The row of a first byte in the table of shapes.
+#[no_mangle]
+pub extern "C" fn khx_shape(first: u8) -> KhxRow
+    ensures { λ r. ⌜ r ≡ rowIn (shapeOf first) ⌝ }
+{
+    match shapes::shape_of(first) {
+        Shape::Row(length, taken, pushed) => KhxRow {
+            refusal: 0,
+            length,
+            taken,
+            pushed,
+        },
+        Shape::Illegal => KhxRow {
+            refusal: 2,
+            length: 0,
+            taken: 0,
+            pushed: 0,
+        },
     }
 }

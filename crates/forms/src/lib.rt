@@ -1,7 +1,7 @@
 // The forms of instructions: what the first byte says of the bytes that follow it.
 ghost use mathlib.Core.Path.{_≡_};
 ghost use Prim.Native.Nat.{_^_, _≤_};
-ghost use Rattle.forms.specs.Form.{formOf, codeOf, widthIn, limitIn, countIn, flagsIn, lengthIn, lengthOf, valueWidth};
+ghost use Rattle.forms.specs.Form.{formOf, codeOf, widthIn, limitIn, countIn, flagsIn, valueWidth};
 
 // What follows the first byte: nothing, a number of one byte, a shift byte, a number of two bytes; or the first byte
 // itself holds a six-bit number, or the count and the flags of one to four values.
@@ -134,29 +134,6 @@ pub fn flags_end(count: u8) -> u8
         return 8;
     }
     16
-}
-
-fn length_in(form: Form, first: u8) -> usize
-    ensures { λ r. ⌜ r ≡ lengthIn form first ⌝ }
-{
-    let limit = limit_in(form);
-    if limit == 0 {
-        return 0;
-    }
-    let count = count_in(form, first);
-    let flags = flags_in(form, first);
-    let end = flags_end(count);
-    if end <= flags {
-        return 0;
-    }
-    1 + width_in(form) + count as usize + u8::count_ones(flags) as usize
-}
-
-// The length of the instruction with this first byte, 0 where it is illegal.
-pub fn length_of(first: u8) -> usize
-    ensures { λ r. ⌜ r ≡ lengthOf first ⌝ }
-{
-    length_in(form_of(code_of(first)), first)
 }
 
 // How many bytes value k of `count` has; `flags` begin with its flag.

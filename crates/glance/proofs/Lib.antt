@@ -1,3 +1,2 @@
 -- What is proved of `glance`.
-mod Rows
-mod Turns
+mod Firsts

@@ -1,3 +1,2 @@
 -- The definitions of `glance`.
-pub mod Follows
-pub mod Numbered
+pub mod Firsts

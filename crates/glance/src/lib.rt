@@ -1,108 +1,101 @@
-// What an instruction leads to at a depth, by its first byte: the table of shapes, or an arm for halts, jumps and branches; the decoder
-// reads the few that are left.
+// What an instruction leads to at a depth, before it is run: its shape is the table's row, and its first byte says where it leads.
 ghost use mathlib.Core.Path.{_≡_};
-ghost use mathlib.Core.Bool.{true, false};
-ghost use Prim.Native.Nat.{ℕ, _<_, _≤_};
-ghost use lib.ListN.{length};
-ghost use Rattle.isa.specs.Op.{Halt, Given};
-ghost use Rattle.isa.specs.declared.Route.the-variants.{Jump, JumpIf, JumpIfNot};
-ghost use Rattle.look.specs.Look.{lookAt, lookOf, outcomeIn};
-ghost use Rattle.glance.specs.Follows.{GoesOn};
-ghost use Rattle.glance.specs.Numbered.{lookNumbered};
+ghost use mathlib.Core.Bool.{not};
+ghost use Prim.Native.Nat.{_+_, _<_, _≤_};
+ghost use lib.Dec.{ltb};
+ghost use lib.ListN.{length, getD};
+ghost use Rattle.basis.specs.Pick.{pick};
+ghost use Rattle.forms.specs.Form.{lengthOf};
+ghost use Rattle.isa.specs.declared.Way.the-variants.{Next};
+ghost use Rattle.paths.specs.Paths.{bad};
+ghost use Rattle.look.specs.Look.{onWay, lookOf, outcomeIn};
+ghost use Rattle.glance.specs.Firsts.{turning, afterOf, firstOn};
 ghost use Rattle.shapes.specs.Shapes.{shapeRows};
-use isa::Stack;
+use basis::number_at;
+use isa::Route;
+use isa::Way;
 use look::Look;
+use shapes::Shape;
 
-// A first byte after which the next instruction always follows, and whose operands may hold anything.
-fn goes_on(first: u8) -> bool
-    ensures { λ r. ⌜ (r ≡ true → GoesOn first) × (r ≡ false → GoesOn first → ⊥) ⌝ }
-{
-    if first >= 0x5B {
-        return true;
-    }
-    if first >= 0x55 {
-        return false;
-    }
-    if first >= 0x41 {
-        return true;
-    }
-    if first >= 0x3B {
-        return false;
-    }
-    if first >= 0x33 {
-        return true;
-    }
-    if first >= 0x31 {
-        return false;
-    }
-    if first >= 0x0B {
-        return true;
-    }
-    if first >= 0x05 {
-        return false;
-    }
-    if first >= 0x01 {
-        return true;
-    }
-    false
+// What was found of an instruction: where the next one begins; the cells, and the depth at which it was met; the values that it takes
+// and pushes, by its row.
+struct Found {
+    next: usize,
+    cells: usize,
+    depth: usize,
+    taken: usize,
+    pushed: usize,
 }
 
-// The machine halts.
-fn halted(cells: usize, depth: usize) -> Look
-    ensures { λ r. ⌜ ((next : ℕ) → outcomeIn r ≡ lookAt cells next depth Halt) ⌝ }
+// Where a way leads behind the stack check.
+fn led(found: Found, way: Way) -> Look
+    ensures { λ r. ⌜ outcomeIn r ≡ onWay (found .next) way (afterOf found) ⌝ }
 {
-    match isa::depth_after(cells, depth, 0, 0) {
-        Stack::Depth(_) => Look::Nowhere,
-        Stack::Refused(number) => Look::Bad(number),
-    }
+    let after = isa::depth_after(found.cells, found.depth, found.taken, found.pushed);
+    look::on_way(found.next, way, after)
 }
 
-// A jump to the number of `width` bytes in the code.
-fn jumped(width: usize, program: &[u8], cells: usize, at: usize, depth: usize) -> Look
-    requires { ⌜ (width ≤ 2) × (at < length (now program)) ⌝ }
-    ensures { λ r. ⌜ outcomeIn r ≡ lookNumbered (now (program .entry)) cells at depth width (Given Jump) ⌝ }
+// A shift by a number in the code, which is below 16.
+fn shifted(program: &[u8], at: usize, found: Found) -> Look
+    requires { ⌜ at + 2 ≤ length (now program) ⌝ }
+    ensures { λ r. ⌜ outcomeIn r ≡ pick (ltb (getD (now (program .entry)) (at + 1) 0) 16) (onWay (found .next) Next (afterOf found)) (bad 2) ⌝ }
 {
-    if program.len() - at < 1 + width {
-        return Look::Bad(3);
+    let place = at + 1;
+    if 16 <= program[place] {
+        return Look::Bad(2);
     }
-    let target = basis::number_at(width, program, at + 1) as usize;
-    match isa::depth_after(cells, depth, 0, 0) {
-        Stack::Depth(after) => Look::One(target, after),
-        Stack::Refused(number) => Look::Bad(number),
-    }
+    led(found, Way::Next)
 }
 
-// A branch to the number of `width` bytes in the code: both ways are possible, whatever the condition.
-fn branched(width: usize, program: &[u8], cells: usize, at: usize, depth: usize) -> Look
-    requires { ⌜ (width ≤ 2) × (at < length (now program)) ⌝ }
-    ensures { λ r. ⌜ outcomeIn r ≡ lookNumbered (now (program .entry)) cells at depth width (Given JumpIf) ⌝ }
-    ensures { λ r. ⌜ outcomeIn r ≡ lookNumbered (now (program .entry)) cells at depth width (Given JumpIfNot) ⌝ }
+// What the instruction at an address leads to, by its first byte: the arms are those that lead elsewhere than to the next one, and the shifts.
+fn look_on(first: u8, program: &[u8], at: usize, found: Found) -> Look
+    requires { ⌜ (at + lengthOf first ≤ length (now program)) × (0 < lengthOf first) ⌝ }
+    ensures { λ r. ⌜ outcomeIn r ≡ firstOn (now (program .entry)) at first found ⌝ }
 {
-    if program.len() - at < 1 + width {
-        return Look::Bad(3);
-    }
-    let target = basis::number_at(width, program, at + 1) as usize;
-    match isa::depth_after(cells, depth, 1, 0) {
-        Stack::Depth(after) => Look::Two(at + 1 + width, target, after),
-        Stack::Refused(number) => Look::Bad(number),
+    match first {
+        0x00 => led(found, Way::Stop),
+        0x05 => led(found, Way::Taken(Route::Call)),
+        0x06 => led(found, Way::Taken(Route::Jump)),
+        0x07 => led(found, Way::Taken(Route::JumpIf)),
+        0x08 => led(found, Way::Taken(Route::JumpIfNot)),
+        0x09 => led(found, Way::Taken(Route::System)),
+        0x0A => led(found, Way::Taken(Route::Extension)),
+        0x31 => shifted(program, at, found),
+        0x32 => shifted(program, at, found),
+        0x3B => led(found, Way::Call(number_at(1, program, at + 1))),
+        0x3C => led(found, Way::Jump(number_at(1, program, at + 1))),
+        0x3D => led(found, Way::Branch(true, number_at(1, program, at + 1))),
+        0x3E => led(found, Way::Branch(false, number_at(1, program, at + 1))),
+        0x3F => led(found, Way::System(number_at(1, program, at + 1))),
+        0x40 => led(found, Way::Extension(number_at(1, program, at + 1))),
+        0x55 => led(found, Way::Call(number_at(2, program, at + 1))),
+        0x56 => led(found, Way::Jump(number_at(2, program, at + 1))),
+        0x57 => led(found, Way::Branch(true, number_at(2, program, at + 1))),
+        0x58 => led(found, Way::Branch(false, number_at(2, program, at + 1))),
+        0x59 => led(found, Way::System(number_at(2, program, at + 1))),
+        0x5A => led(found, Way::Extension(number_at(2, program, at + 1))),
+        _ => led(found, Way::Next),
     }
 }
 
-// What the instruction at an address leads to: a halt, a jump or a branch by its first byte, any other as the decoder reads it.
-fn look_turn(program: &[u8], cells: usize, at: usize, depth: usize) -> Look
-    requires { ⌜ (at < length (now program)) × (length (now program) ≤ 16384) ⌝ }
-    ensures { λ r. ⌜ outcomeIn r ≡ lookOf (now (program .entry)) cells at depth ⌝ }
+// A first byte that has no arm above: the next instruction follows, whatever stands between. It is asked before the arms, since most
+// first bytes have none, and a test is foreseen more often than a jump among the arms.
+fn follows(first: u8) -> bool
+    ensures { λ r. ⌜ r ≡ not (turning first) ⌝ }
 {
-    match program[at] {
-        0x00 => halted(cells, depth),
-        0x3C => jumped(1, program, cells, at, depth),
-        0x3D => branched(1, program, cells, at, depth),
-        0x3E => branched(1, program, cells, at, depth),
-        0x56 => jumped(2, program, cells, at, depth),
-        0x57 => branched(2, program, cells, at, depth),
-        0x58 => branched(2, program, cells, at, depth),
-        _ => look::look_read(program, cells, at, depth),
+    if 0x55 <= first {
+        return 0x5B <= first;
     }
+    if 0x3B <= first {
+        return 0x41 <= first;
+    }
+    if 0x31 <= first {
+        return 0x33 <= first;
+    }
+    if 0x05 <= first {
+        return 0x0B <= first;
+    }
+    0x01 <= first
 }
 
 // What the instruction at an address leads to from a depth, with so many cells; the rows are the table of shapes.
@@ -111,21 +104,23 @@ pub fn look_at(rows: &[u8], program: &[u8], cells: usize, at: usize, depth: usiz
     ensures { λ r. ⌜ outcomeIn r ≡ lookOf (now (program .entry)) cells at depth ⌝ }
 {
     let first = program[at];
-    if !goes_on(first) {
-        return look_turn(program, cells, at, depth);
-    }
-    let row = first as usize * 3;
-    let length = rows[row] as usize;
-    if length == 0 {
-        return Look::Bad(2);
-    }
-    if program.len() - at < length {
-        return Look::Bad(3);
-    }
-    let taken = rows[row + 1] as usize;
-    let pushed = rows[row + 2] as usize;
-    match isa::depth_after(cells, depth, taken, pushed) {
-        Stack::Depth(after) => Look::One(at + length, after),
-        Stack::Refused(number) => Look::Bad(number),
+    match shapes::row_in(rows, first) {
+        Shape::Row(length, taken, pushed) => {
+            if program.len() - at < length {
+                return Look::Bad(3);
+            }
+            let found = Found {
+                next: at + length,
+                cells,
+                depth,
+                taken,
+                pushed,
+            };
+            if follows(first) {
+                return led(found, Way::Next);
+            }
+            look_on(first, program, at, found)
+        }
+        Shape::Illegal => Look::Bad(2),
     }
 }

@@ -18,7 +18,7 @@ use Rattle.machine.proofs.Answers.{over-refused, allowed-runs, over-or-allowed}
 use Rattle.effects.proofs.Frame.{act-framed}
 use Rattle.effects.proofs.Agrees.{act-alike}
 use Rattle.encoder.proofs.Trips.{read-stands, stands-read, written-read, read-written, encoded-one}
-use Rattle.isa.proofs.Refuses.{refusal-why, why-refusal}
+use Rattle.decoder.proofs.Refuses.{refusal-why, why-refusal}
 use Rattle.paths.specs.Paths.{Mapped}
 use Rattle.paths.specs.Walk.{cellOf}
 use Rattle.paths.proofs.Walks.{final, shows, accepted-fine, fine-accepted, accepted-mapped}

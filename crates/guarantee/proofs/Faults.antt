@@ -8,7 +8,7 @@ use mathlib.Core.List.{List}
 use lib.ListN.{length}
 use Rattle.basis.specs.Answer.{refused}
 use Rattle.basis.proofs.Tests.{false-true}
-use Rattle.isa.specs.Decode.{decodeOf}
+use Rattle.decoder.specs.Decode.{decodeOf}
 use Rattle.effects.specs.Act.{done, actOf}
 use Rattle.effects.specs.Reach.{isFault}
 use Rattle.effects.specs.declared.Move.{Move}

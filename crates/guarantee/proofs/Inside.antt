@@ -6,7 +6,7 @@ use mathlib.Core.Path.{_≡_, refl, sym, ap, _∙_}
 use mathlib.Core.Logic.{_⊎_, inl, inr}
 use mathlib.Core.List.{List}
 use lib.ListN.{length, getD, List·getD-map}
-use Rattle.isa.proofs.Lengths.{read-length}
+use Rattle.decoder.proofs.Lengths.{read-length}
 use Rattle.machine.specs.Machine.{Machine, stepOf}
 use Rattle.machine.specs.Trace.{Took, none, more, Ends, paused, stopped, faults}
 use Rattle.machine.proofs.Runs.{run-told}

@@ -5,3 +5,4 @@ pub mod Demands
 pub mod Inside
 pub mod Marked
 pub mod Copies
+pub mod Shapes

@@ -8,7 +8,7 @@ use borrow.Author.Tests.{le-ltb, lt-leb}
 use Rattle.forms.specs.Form.{formOf, codeOf, lengthOf, valueWidth}
 use Rattle.isa.specs.Op.{opIn, opOf}
 use Rattle.isa.specs.Shape.{depthAfter}
-use Rattle.isa.specs.Decode.{headOf, decodeOf}
+use Rattle.decoder.specs.Decode.{headOf, decodeOf}
 use Rattle.effects.specs.Act.{doOf, actOf}
 use Rattle.machine.specs.Machine.{stepOf}
 use Rattle.machine.specs.Run.{runOf, outcomeOf}

@@ -9,8 +9,8 @@ use lib.ListN.{length, take, drop, replicate, getElem?, getD}
 use Rattle.basis.specs.Answer.{given, refused, seen}
 use Rattle.basis.specs.Number.{Bytes}
 use Rattle.basis.specs.Room.{roomAfter}
-use Rattle.isa.specs.Decode.{decodeOf}
-use Rattle.isa.specs.Refusals.{Why}
+use Rattle.decoder.specs.Decode.{decodeOf}
+use Rattle.decoder.specs.Refusals.{Why}
 use Rattle.isa.specs.declared.Instruction.{Instruction}
 use Rattle.isa.specs.Op.{opOf}
 use Rattle.encoder.specs.Encode.{wellFormed, encodedOf, encodeOf}

@@ -2,3 +2,4 @@
 pub mod Demands
 pub mod Marked
 pub mod Copies
+pub mod Shapes

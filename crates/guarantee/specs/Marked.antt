@@ -4,7 +4,7 @@ use mathlib.Core.Path.{_≡_}
 use mathlib.Core.List.{List, [], _∷_}
 use lib.ListN.{length, replicate}
 use Rattle.basis.specs.Answer.{Answer, given, refused}
-use Rattle.isa.specs.Decode.{Reading, decodeOf}
+use Rattle.decoder.specs.Decode.{Reading, decodeOf}
 use Rattle.machine.specs.Machine.{Machine, machine, fresh}
 use Rattle.machine.specs.Run.{Outcome, came, outcomeOf}
 use Rattle.verifier.specs.Verify.{good, names, Verified, verifyOf}

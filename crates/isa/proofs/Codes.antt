@@ -1,6 +1,6 @@
--- Laws of the codes: what an operation takes, pushes and leads to, told by its code, and tests over runs of codes.
+-- Laws of the codes: what an operation takes, pushes and leads to, told by its code.
 -- Assumes nothing.
-use Prim.Native.Nat.{ℕ, _+_, _≤_, _<_}
+use Prim.Native.Nat.{ℕ, _≤_}
 use mathlib.Core.Path.{_≡_, refl, sym, ap, _∙_}
 use mathlib.Core.Bool.{Bool, true, false}
 use mathlib.Core.List.{List, [], _∷_, map}
@@ -9,57 +9,9 @@ use lib.Seq.{length-take-le}
 use lib.Dec.{eqb}
 use borrow.Author.Tests.{eqb-true}
 use Rattle.basis.specs.Pick.{pick}
-use Rattle.basis.proofs.Tables.{every, at, span, inside}
-use Rattle.basis.proofs.Tests.{false-true}
 use Rattle.isa.specs.Op.{Op, Push, NoOp, opsOf, opIn, valuesOf, opOf}
 use Rattle.isa.specs.Shape.{takenOf, pushedOf, wayOf, takenIn, pushedIn, wayIn}
 use Rattle.isa.specs.declared.Instruction.{Instruction}
-use Rattle.isa.specs.declared.Way.{Way}
-use Rattle.isa.specs.declared.Way.the-variants.{Stop, Next, Jump, Branch, Call, Taken, System, Extension}
-
--- a number told by the code is v at each of the n codes from lo
-pub told : (f : ℕ → ℕ) (v lo n : ℕ) → span (λ c. eqb v (f c)) lo n ≡ true → (c : ℕ) → lo ≤ c → c < lo + n → v ≡ f c
-told f v lo n t c h l = eqb-true v (f c) (inside (λ k. eqb v (f k)) lo n t c h l)
-
--- two numbers told by the code agree at each of the n codes from lo
-pub agree : (f g : ℕ → ℕ) (lo n : ℕ) → span (λ c. eqb (f c) (g c)) lo n ≡ true → (c : ℕ) → lo ≤ c → c < lo + n → f c ≡ g c
-agree f g lo n t c h l = eqb-true (f c) (g c) (inside (λ k. eqb (f k) (g k)) lo n t c h l)
-
--- the way is the next instruction
-abbrev pub isNext : Way → Bool
-isNext Stop = false
-isNext Next = true
-isNext (Jump x) = false
-isNext (Branch t x) = false
-isNext (Call x) = false
-isNext (Taken r) = false
-isNext (System x) = false
-isNext (Extension x) = false
-
-pub next-way : (w : Way) → isNext w ≡ true → Next ≡ w
-next-way Stop e = absurd (false-true e)
-next-way Next e = refl
-next-way (Jump x) e = absurd (false-true e)
-next-way (Branch t x) e = absurd (false-true e)
-next-way (Call x) e = absurd (false-true e)
-next-way (Taken r) e = absurd (false-true e)
-next-way (System x) e = absurd (false-true e)
-next-way (Extension x) e = absurd (false-true e)
-
--- the codes that lead elsewhere than to the next instruction
-abbrev pub leading : ℕ → Bool
-leading c = member c (0x00 ∷ 0x05 ∷ 0x06 ∷ 0x07 ∷ 0x08 ∷ 0x09 ∷ 0x0A ∷ 0x3B ∷ 0x3C ∷ 0x3D ∷ 0x3E ∷ 0x3F ∷ 0x40 ∷ 0x55 ∷ 0x56 ∷ 0x57 ∷ 0x58 ∷ 0x59 ∷ 0x5A ∷ [])
-  where
-    member : ℕ → List ℕ → Bool
-    member c [] = false
-    member c (k ∷ ks) = pick (eqb c k) true (member c ks)
-
-all-next : (x : ℕ) → every (λ c. pick (leading c) true (isNext (wayIn c x))) 256 ≡ true
-unfolding wayIn opIn
-all-next x = refl
-
-pub others : (c x : ℕ) → c < 256 → leading c ≡ false → Next ≡ wayIn c x
-others c x h l = next-way (wayIn c x) (rw l at (at (λ k. pick (leading k) true (isNext (wayIn k x))) 256 (all-next x) c h))
 
 -- a number told by the operation does not depend on the number in the code where it does not in the whole list
 same : (f : Op → ℕ) (c x : ℕ) → map f (opsOf x) ≡ map f (opsOf 0) → f (Push (x ∷ [])) ≡ f (Push (0 ∷ [])) → f (opIn c x) ≡ f (opIn c 0)

@@ -1,10 +1,6 @@
-// What an instruction is: how it is read, its way, and the stack check.
-mod decoder;
-mod shapes;
-
-pub use decoder::decode;
-pub use shapes::depth_after;
-pub use shapes::way_of;
+// What an instruction is: its parts as a value, the ways it can lead, and the stack check.
+ghost use mathlib.Core.Path.{_≡_};
+ghost use Rattle.isa.specs.Shape.{depthAfter, stackAnswer};
 
 // An instruction as a value. What the form lacks is 0. Bit i of the flags is set where value i has two bytes.
 pub struct Instruction {
@@ -16,12 +12,6 @@ pub struct Instruction {
     pub v1: u16,
     pub v2: u16,
     pub v3: u16,
-}
-
-// What stands at an address: an instruction and its length, or a refusal's number.
-pub enum Decoded {
-    Read(Instruction, usize),
-    Refused(usize),
 }
 
 // How an instruction leaves the straight line: 05 to 0A take their target from the stack, 3B to 40 and 55 to 5A have it
@@ -52,4 +42,21 @@ pub enum Way {
 pub enum Stack {
     Depth(usize),
     Refused(usize),
+}
+
+// The stack check: the depth after `taken` values were taken and `pushed` pushed.
+pub fn depth_after(cells: usize, depth: usize, taken: usize, pushed: usize) -> Stack
+    ensures { λ r. ⌜ stackAnswer r ≡ depthAfter cells depth taken pushed ⌝ }
+{
+    if depth < taken {
+        return Stack::Refused(4);
+    }
+    let left = depth - taken;
+    if cells < left {
+        return Stack::Refused(5);
+    }
+    if cells - left < pushed {
+        return Stack::Refused(5);
+    }
+    Stack::Depth(left + pushed)
 }

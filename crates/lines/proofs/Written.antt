@@ -6,10 +6,10 @@ use mathlib.Core.Path.{_≡_, refl}
 use mathlib.Core.List.{List, _++_}
 use lib.ListN.{length, set, length-append}
 use Rattle.basis.specs.Answer.{Answer, given, refused}
-use Rattle.isa.specs.Decode.{Reading, decodedAnswer}
+use Rattle.decoder.specs.Decode.{Reading, decodedAnswer}
 use Rattle.isa.specs.declared.Instruction.{Instruction}
-use Rattle.isa.specs.declared.Decoded.{Decoded}
-use Rattle.isa.specs.declared.Decoded.the-variants.{Read, Refused}
+use Rattle.decoder.specs.declared.Decoded.{Decoded}
+use Rattle.decoder.specs.declared.Decoded.the-variants.{Read, Refused}
 use Rattle.text.specs.Text.{bytes, hexOf}
 use Rattle.text.specs.Put.{Put}
 use Rattle.text.proofs.Puts.{put-one, put-append}

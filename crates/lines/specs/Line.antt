@@ -2,7 +2,7 @@
 use Prim.Native.Nat.{ℕ}
 use mathlib.Core.List.{List, _++_}
 use Rattle.basis.specs.Answer.{Answer, given, refused}
-use Rattle.isa.specs.Decode.{Reading}
+use Rattle.decoder.specs.Decode.{Reading}
 use Rattle.text.specs.Text.{bytes, hexOf}
 use Rattle.names.specs.Names.{nameOf}
 pub use Rattle.operands.specs.Operands.{operandOf, shownIn}

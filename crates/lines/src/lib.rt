@@ -2,11 +2,11 @@
 ghost use mathlib.Core.Path.{_≡_};
 ghost use Prim.Native.Nat.{_+_, _≤_};
 ghost use lib.ListN.{length};
-ghost use Rattle.isa.specs.Decode.{decodedAnswer};
+ghost use Rattle.decoder.specs.Decode.{decodedAnswer};
 ghost use Rattle.text.specs.Put.{Put};
 ghost use Rattle.names.specs.Rows.{nameRows};
 ghost use Rattle.lines.specs.Line.{saidOf, stepOf, lineOf};
-use isa::Decoded;
+use decoder::Decoded;
 use names::name_length;
 use names::put_name;
 use operands::operands_length;

@@ -10,8 +10,8 @@ use lib.Seq.{sets, drop-cons, drop-length, drop-drop}
 use borrow.Author.Tests.{le-ltb, lt-leb}
 use Rattle.basis.specs.Answer.{Answer, given, refused}
 use Rattle.basis.proofs.Stores.{sets-append}
-use Rattle.isa.specs.Decode.{Reading, headOf, decodeOf}
-use Rattle.isa.proofs.Lengths.{head-length}
+use Rattle.decoder.specs.Decode.{Reading, headOf, decodeOf}
+use Rattle.decoder.proofs.Lengths.{head-length}
 use Rattle.text.specs.Put.{Put}
 use Rattle.lines.specs.Line.{stepOf, lineOf}
 use Rattle.listing.specs.Listing.{linesOf}

@@ -6,7 +6,7 @@ use lib.Dec.{ltb}
 use Rattle.basis.specs.Pick.{pick}
 use Rattle.basis.specs.Answer.{Answer, given, refused}
 use Rattle.basis.specs.Room.{fitted}
-use Rattle.isa.specs.Decode.{headOf}
+use Rattle.decoder.specs.Decode.{headOf}
 use Rattle.lines.specs.Line.{stepOf, lineOf}
 use Rattle.listing.specs.declared.Listed.{Listed}
 use Rattle.listing.specs.declared.Listed.the-variants.{Written, Refused}

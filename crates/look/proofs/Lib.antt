@@ -1,6 +1,5 @@
 -- What is proved of `look`.
 pub mod Numbers
-pub mod Readings
 pub mod Shallow
 pub mod Wrongs
 pub mod Answers

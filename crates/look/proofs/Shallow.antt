@@ -12,7 +12,7 @@ use Rattle.basis.specs.Pick.{pick}
 use Rattle.basis.specs.Answer.{Answer, given, refused}
 use Rattle.isa.specs.Op.{opOf}
 use Rattle.isa.specs.Shape.{takenOf, pushedOf, wayOf, depthAfter}
-use Rattle.isa.specs.Decode.{Reading, decodeOf}
+use Rattle.decoder.specs.Decode.{Reading, decodeOf}
 use Rattle.isa.specs.declared.Way.{Way}
 use Rattle.isa.specs.declared.Way.the-variants.{Stop, Next, Jump, Branch, Call, Taken, System, Extension}
 use Rattle.paths.specs.Paths.{Hop, hop, Outcome, bad, leads, In}

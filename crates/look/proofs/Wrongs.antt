@@ -14,7 +14,7 @@ use Rattle.basis.specs.Answer.{Answer, given, refused}
 use Rattle.basis.proofs.Tests.{false-true, test}
 use Rattle.isa.specs.Op.{opOf}
 use Rattle.isa.specs.Shape.{takenOf, pushedOf, wayOf, depthAfter}
-use Rattle.isa.specs.Decode.{Reading, decodeOf}
+use Rattle.decoder.specs.Decode.{Reading, decodeOf}
 use Rattle.isa.specs.declared.Way.{Way}
 use Rattle.isa.specs.declared.Way.the-variants.{Stop, Next, Jump, Branch, Call, Taken, System, Extension}
 use Rattle.paths.specs.Paths.{Hop, bad, leads, Fine}

@@ -7,7 +7,7 @@ use lib.ListN.{length}
 use Rattle.basis.specs.Answer.{given, refused}
 use Rattle.isa.specs.Op.{opOf}
 use Rattle.isa.specs.Shape.{takenOf, pushedOf, wayOf}
-use Rattle.isa.specs.Decode.{Reading, decodeOf}
+use Rattle.decoder.specs.Decode.{Reading, decodeOf}
 use Rattle.isa.specs.declared.Route.{Route}
 use Rattle.isa.specs.declared.Way.the-variants.{Call, Taken, System, Extension}
 use Rattle.paths.specs.Paths.{Met}

@@ -1,8 +1,7 @@
-// What an instruction leads to at a depth, before it is run: a refusal, or its successors, as the decoder reads it.
+// What an instruction leads to at a depth, before it is run: a refusal, or its successors, by its way and the stack check.
 ghost use mathlib.Core.Path.{_≡_};
 ghost use Rattle.isa.specs.Shape.{stackAnswer};
-ghost use Rattle.look.specs.Look.{isNine, along, onWay, lookOf, outcomeIn};
-use isa::Decoded;
+ghost use Rattle.look.specs.Look.{isNine, along, onWay, outcomeIn};
 use isa::Stack;
 use isa::Way;
 
@@ -52,7 +51,7 @@ fn along_way(next: usize, depth: usize, way: Way) -> Look
 }
 
 // Where a way leads, the stack check's answer at hand.
-fn on_way(next: usize, way: Way, after: Stack) -> Look
+pub fn on_way(next: usize, way: Way, after: Stack) -> Look
     ensures { λ r. ⌜ outcomeIn r ≡ onWay next way (stackAnswer after) ⌝ }
 {
     if is_nine(way) {
@@ -61,25 +60,5 @@ fn on_way(next: usize, way: Way, after: Stack) -> Look
     match after {
         Stack::Depth(depth) => along_way(next, depth, way),
         Stack::Refused(number) => Look::Bad(number),
-    }
-}
-
-// What the instruction at an address leads to, as the decoder reads it.
-pub fn look_read(program: &[u8], cells: usize, at: usize, depth: usize) -> Look
-    ensures { λ r. ⌜ outcomeIn r ≡ lookOf (now (program .entry)) cells at depth ⌝ }
-{
-    match isa::decode(program, at) {
-        Decoded::Read(read, length) => {
-            let code = read.code;
-            let way = isa::way_of(code, read.number);
-            let taken = counts::taken_of(code);
-            let pushed = counts::pushed_of(code, read.count);
-            on_way(
-                at + length,
-                way,
-                isa::depth_after(cells, depth, taken, pushed),
-            )
-        }
-        Decoded::Refused(number) => Look::Bad(number),
     }
 }

@@ -15,9 +15,9 @@ use Rattle.basis.specs.Number.{numberAt}
 use Rattle.forms.specs.Form.{formOf, codeOf, countIn, flagsIn, lengthOf}
 use Rattle.forms.specs.declared.Form.the-variants.{Values}
 use Rattle.isa.specs.Op.{Push, opOf}
-use Rattle.isa.specs.Decode.{withValues, headOf, decodeOf}
-use Rattle.isa.specs.Refusals.{Inside, illegal-first, cut}
-use Rattle.isa.proofs.Refuses.{why-refusal}
+use Rattle.decoder.specs.Decode.{withValues, headOf, decodeOf}
+use Rattle.decoder.specs.Refusals.{Inside, illegal-first, cut}
+use Rattle.decoder.proofs.Refuses.{why-refusal}
 use Rattle.effects.specs.Memory.{pushed}
 use Rattle.effects.specs.Effect.{goes}
 use Rattle.effects.specs.Act.{done, doOf, actOf}

@@ -3,7 +3,7 @@ use Prim.Native.Nat.{ℕ, zero, suc, _+_, _/_, _%_}
 use mathlib.Core.List.{List, [], _∷_}
 use Rattle.basis.specs.Number.{numberAt}
 use Rattle.isa.specs.Op.{valuesOf}
-use Rattle.isa.specs.Decode.{withValues}
+use Rattle.decoder.specs.Decode.{withValues}
 
 -- the first to the last of count values with these flags, which begin at a place of s
 abbrev pub valuesAt : ℕ → ℕ → List ℕ → ℕ → List ℕ

@@ -4,7 +4,7 @@ ghost use mathlib.Core.List.{List, [], _∷_};
 ghost use Prim.Native.Nat.{ℕ, _+_, _≤_, _<_};
 ghost use lib.ListN.{length};
 ghost use Rattle.basis.specs.Number.{numberAt};
-ghost use Rattle.isa.specs.Refusals.{Inside};
+ghost use Rattle.decoder.specs.Refusals.{Inside};
 ghost use Rattle.effects.specs.Memory.{pushed};
 ghost use Rattle.effects.specs.Act.{done, actOf};
 ghost use Rattle.pushes.specs.Values.{valuesFrom, bytesIn};

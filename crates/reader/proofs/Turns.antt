@@ -4,11 +4,11 @@ use Prim.Native.Nat.{ℕ, _+_}
 use mathlib.Core.Path.{_≡_, sym, ap, _∙_}
 use mathlib.Core.List.{List}
 use Rattle.basis.specs.Answer.{Answer, given, refused}
-use Rattle.isa.specs.Decode.{Reading, decodeOf, decodedAnswer}
+use Rattle.decoder.specs.Decode.{Reading, decodeOf, decodedAnswer}
 use Rattle.isa.specs.declared.Instruction.{Instruction}
-use Rattle.isa.specs.declared.Decoded.{Decoded}
-use Rattle.isa.specs.declared.Decoded.the-variants.{Read, Refused}
-use Rattle.isa.proofs.Answers.{decoded-one}
+use Rattle.decoder.specs.declared.Decoded.{Decoded}
+use Rattle.decoder.specs.declared.Decoded.the-variants.{Read, Refused}
+use Rattle.decoder.proofs.Answers.{decoded-one}
 use Rattle.reader.specs.Turn.{turnOf, turnAnswer}
 
 module _ (p : List ℕ) (at : ℕ) (d : Decoded) (e : decodedAnswer d ≡ decodeOf p at) where

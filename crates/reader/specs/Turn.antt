@@ -2,8 +2,8 @@
 use Prim.Native.Nat.{ℕ, _+_}
 use mathlib.Core.List.{List}
 use Rattle.basis.specs.Answer.{Answer, given, refused}
-use Rattle.isa.specs.Decode.{Reading, decodeOf, decodedAnswer}
-use Rattle.isa.specs.declared.Decoded.{Decoded}
+use Rattle.decoder.specs.Decode.{Reading, decodeOf, decodedAnswer}
+use Rattle.decoder.specs.declared.Decoded.{Decoded}
 
 -- past the instruction that was read; "on a refusal it doesn't move"
 abbrev pub afterOf : Answer Reading → ℕ → ℕ

@@ -1,8 +1,8 @@
 // A reader: it keeps hold of a lent program, and gives one instruction at a time.
 ghost use mathlib.Core.Path.{_≡_};
-ghost use Rattle.isa.specs.Decode.{decodeOf, decodedAnswer};
+ghost use Rattle.decoder.specs.Decode.{decodeOf, decodedAnswer};
 ghost use Rattle.reader.specs.Turn.{turnOf, turnAnswer};
-use isa::Decoded;
+use decoder::Decoded;
 
 // A program, and the address of the next instruction to be read.
 pub struct Reader<'a> {
@@ -20,7 +20,7 @@ pub struct Turn {
 pub fn turn_at(program: &[u8], at: usize) -> Turn
     ensures { λ t. ⌜ turnAnswer (t .answer) (t .at) ≡ turnOf (now (program .entry)) at ⌝ }
 {
-    let answer = isa::decode(program, at);
+    let answer = decoder::decode(program, at);
     match answer {
         Decoded::Read(_, n) => Turn { answer, at: at + n },
         Decoded::Refused(_) => Turn { answer, at },
@@ -39,7 +39,7 @@ pub fn peek<'a>(r: Reader<'a>) -> Decoded
     ensures { λ d. ⌜ decodedAnswer d ≡ decodeOf (now (r .entry .program)) (r .entry .at) ⌝ }
 {
     let at = r.at;
-    isa::decode(r.program, at)
+    decoder::decode(r.program, at)
 }
 
 // What stands where a reader is; the reader moves past it, and on a refusal it stays.

@@ -14,7 +14,7 @@ use Rattle.basis.specs.Pick.{pick}
 use Rattle.basis.specs.Answer.{Answer, given, refused}
 use Rattle.isa.specs.Op.{Op, opOf}
 use Rattle.isa.specs.Shape.{takenOf, pushedOf, wayOf, depthAfter}
-use Rattle.isa.specs.Decode.{Reading, decodeOf}
+use Rattle.decoder.specs.Decode.{Reading, decodeOf}
 use Rattle.isa.specs.declared.Way.{Way}
 use Rattle.effects.specs.Memory.{operandOf, good}
 use Rattle.effects.specs.Effect.{fails, leaves, placeOf, holds, effectOf}

@@ -1,6 +1,12 @@
-// The shapes of the 256 first bytes as one table: length, values taken, values pushed.
+// The shapes of the 256 first bytes as one table: length, values taken, values pushed. Decoder and verifier go by it.
 ghost use mathlib.Core.Path.{_≡_};
-ghost use Rattle.shapes.specs.Shapes.{shapeRows};
+ghost use Rattle.shapes.specs.Shapes.{shapeOf, shapeRows};
+
+// The row of a first byte: length, values taken, values pushed; or no instruction begins with it.
+pub enum Shape {
+    Row(usize, usize, usize),
+    Illegal,
+}
 
 // Three numbers for each first byte, eight bytes a line; an illegal byte has length 0.
 const ROWS: [u8; 768] = *b"\
@@ -43,4 +49,25 @@ pub fn rows() -> [u8; 768]
     ensures { λ r. ⌜ r ≡ shapeRows ⌝ }
 {
     ROWS
+}
+
+// The row of a first byte, in the table.
+pub fn row_in(rows: &[u8], first: u8) -> Shape
+    requires { ⌜ now rows ≡ shapeRows ⌝ }
+    ensures { λ r. ⌜ r ≡ shapeOf first ⌝ }
+{
+    let row = first as usize * 3;
+    let length = rows[row] as usize;
+    if length == 0 {
+        return Shape::Illegal;
+    }
+    Shape::Row(length, rows[row + 1] as usize, rows[row + 2] as usize)
+}
+
+// The row of a first byte, for a caller that asks once.
+pub fn shape_of(first: u8) -> Shape
+    ensures { λ r. ⌜ r ≡ shapeOf first ⌝ }
+{
+    let rows = rows();
+    row_in(&rows, first)
 }

@@ -17,7 +17,7 @@ use Rattle.forms.specs.Form.{formOf, codeOf, widthIn, limitIn, countIn, flagsIn
 use Rattle.forms.specs.declared.Form.{Form}
 use Rattle.forms.specs.declared.Form.the-variants.{Plain, Byte, Shift, Word, Short, Values, Illegal}
 use Rattle.forms.proofs.Widths.{count-le, flags-lt}
-use Rattle.isa.specs.Decode.{Reading, numberIn, instructionIn, headOf, decodeOf}
+use Rattle.decoder.specs.Decode.{Reading, numberIn, instructionIn, headOf, decodeOf}
 use Rattle.isa.specs.declared.Instruction.{Instruction}
 use Rattle.encoder.specs.Encode.{countGood, valuesGood, wellFormed, bytesIn, encodedOf, encodeOf}
 use Rattle.encoder.proofs.Wells.{count-good-le, well, well-flags, length-well}

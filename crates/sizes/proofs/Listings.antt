@@ -19,7 +19,7 @@ use Rattle.forms.specs.Form.{formOf, codeOf, widthIn, limitIn, countIn, flagsIn
 use Rattle.forms.specs.declared.Form.{Form}
 use Rattle.forms.specs.declared.Form.the-variants.{Plain, Byte, Shift, Word, Short, Values, Illegal}
 use Rattle.forms.proofs.Widths.{count-le, widths-sum, legal}
-use Rattle.isa.specs.Decode.{Reading, numberIn, instructionIn, headOf}
+use Rattle.decoder.specs.Decode.{Reading, numberIn, instructionIn, headOf}
 use Rattle.text.proofs.Puts.{length-hex}
 use Rattle.names.specs.Names.{placeOf, nameOf}
 use Rattle.lines.specs.Line.{operandOf, shownIn, operandsOf, saidOf, stepOf, lineOf}

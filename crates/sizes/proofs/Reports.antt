@@ -15,7 +15,7 @@ use Rattle.basis.specs.Room.{fitted}
 use Rattle.forms.specs.Form.{formOf, codeOf, valueWidth, lengthOf}
 use Rattle.isa.specs.Op.{opIn, opOf}
 use Rattle.isa.specs.Shape.{depthAfter}
-use Rattle.isa.specs.Decode.{headOf, decodeOf}
+use Rattle.decoder.specs.Decode.{headOf, decodeOf}
 use Rattle.paths.specs.Walk.{walk, turns, turn, lowest, meets, meet}
 use Rattle.look.specs.Look.{lookOf}
 use Rattle.verifier.specs.Verify.{Judged, names, verifyOf}

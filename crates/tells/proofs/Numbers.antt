@@ -4,8 +4,9 @@ use mathlib.Core.Path.{refl}
 use lib.Count.{ones}
 use Rattle.forms.specs.Form.{formOf, codeOf, lengthOf, valueWidth}
 use Rattle.isa.specs.Op.{opIn, opOf}
-use Rattle.isa.specs.Shape.{depthAfter}
-use Rattle.isa.specs.Decode.{headOf, decodeOf}
+use Rattle.isa.specs.Shape.{depthAfter, takenIn, pushedIn}
+use Rattle.shapes.specs.Shapes.{shapeOf}
+use Rattle.decoder.specs.Decode.{headOf, decodeOf}
 use Rattle.effects.specs.Act.{doOf, actOf}
 use Rattle.machine.specs.Machine.{stepOf}
 use Rattle.machine.specs.Run.{runOf, outcomeOf}
@@ -16,6 +17,6 @@ use Rattle.answers.specs.Runs.{statusOf}
 use Rattle.tells.specs.Numbers.{Numbers}
 
 pub numbers-told : Numbers
-unfolding outcomeOf runOf stepOf actOf doOf depthAfter opOf opIn verifyOf walk turns turn lowest meets meet lookOf decodeOf headOf lengthOf formOf codeOf valueWidth ones statusOf
+unfolding outcomeOf runOf stepOf actOf doOf depthAfter opOf opIn verifyOf walk turns turn lowest meets meet lookOf decodeOf headOf lengthOf formOf codeOf valueWidth ones statusOf shapeOf takenIn pushedIn
 numbers-told =
-    ((refl, refl, refl, refl, refl, refl, refl, refl, refl, refl, refl), (refl, refl, refl), (refl, refl, refl, refl, refl, refl, refl, refl, refl, refl, refl))
+    ((refl, refl, refl, refl, refl, refl, refl, refl, refl, refl, refl), (refl, refl, refl), (refl, refl, refl, refl, refl, refl, refl, refl, refl, refl, refl, refl, refl))

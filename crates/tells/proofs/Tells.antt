@@ -14,7 +14,7 @@ use Rattle.basis.specs.Answer.{Answer, given, refused, seen}
 use Rattle.basis.specs.Room.{fitted}
 use Rattle.basis.proofs.Tests.{false-true}
 use Rattle.forms.specs.Form.{formOf, codeOf, limitIn, lengthOf}
-use Rattle.isa.specs.Decode.{Reading, numberIn, headOf, decodeOf}
+use Rattle.decoder.specs.Decode.{Reading, numberIn, headOf, decodeOf}
 use Rattle.isa.specs.declared.Instruction.{Instruction}
 use Rattle.encoder.specs.Encode.{wellFormed, encodedOf, encodeOf}
 use Rattle.listing.specs.Listing.{listingOf, listOf}
@@ -31,7 +31,10 @@ use Rattle.answers.specs.declared.KhxDecoded.{KhxDecoded}
 use Rattle.answers.specs.declared.KhxChecked.{KhxChecked}
 use Rattle.answers.specs.declared.KhxEntry.{KhxEntry}
 use Rattle.answers.specs.Written.{writtenIn}
-use Rattle.answers.specs.Instructions.{instructionOf, decodedIn}
+use Rattle.answers.specs.Instructions.{instructionOf, decodedIn, rowIn}
+use Rattle.shapes.specs.declared.Shape.{Shape}
+use Rattle.shapes.specs.declared.Shape.the-variants.{Row, Illegal}
+use Rattle.answers.specs.declared.KhxRow.{KhxRow}
 use Rattle.answers.specs.Packs.{checkedIn, listedIn}
 use Rattle.answers.specs.Packs as packs
 use Rattle.tells.specs.Told.{Told}
@@ -138,6 +141,13 @@ decoded-in-one (given r) (given q) x y e = ap (λ (d : KhxDecoded). given (instr
 decoded-in-one (given r) (refused k) x y e = absurd (y (sym (ap (λ (d : KhxDecoded). d .refusal) e)))
 decoded-in-one (refused k) (given q) x y e = absurd (x (ap (λ (d : KhxDecoded). d .refusal) e))
 decoded-in-one (refused k) (refused l) x y e = ap (λ (d : KhxDecoded). refused (d .refusal)) e
+
+-- of a first byte's row
+pub row-in-one : (a b : Shape) → rowIn a ≡ rowIn b → a ≡ b
+row-in-one (Row l t p) (Row m u q) e = ap (λ (r : KhxRow). Row (r .length) (r .taken) (r .pushed)) e
+row-in-one (Row l t p) Illegal e = absurd (let z = ap (λ (r : KhxRow). r .refusal) e in omega arith)
+row-in-one Illegal (Row m u q) e = absurd (let z = ap (λ (r : KhxRow). r .refusal) e in omega arith)
+row-in-one Illegal Illegal e = refl
 
 -- of the check of a pack
 pub checked-in-one : (a b : Answer ℕ) → Told a → Told b → checkedIn a ≡ checkedIn b → a ≡ b

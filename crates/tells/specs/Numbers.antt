@@ -4,7 +4,8 @@ use mathlib.Core.Path.{_≡_}
 use mathlib.Core.List.{List, [], _∷_}
 use mathlib.Core.Option.{none, some}
 use Rattle.basis.specs.Answer.{given, refused}
-use Rattle.isa.specs.Decode.{decodeOf}
+use Rattle.decoder.specs.Decode.{decodeOf}
+use Rattle.shapes.specs.Shapes.{shapeOf}
 use Rattle.machine.specs.Machine.{machine}
 use Rattle.machine.specs.Run.{outcomeOf}
 use Rattle.verifier.specs.Verify.{verifyOf}
@@ -14,10 +15,11 @@ use Rattle.answers.specs.declared.KhxRan.{KhxRan}
 use Rattle.answers.specs.declared.KhxVerdict.{KhxVerdict}
 use Rattle.answers.specs.declared.KhxInstruction.{KhxInstruction}
 use Rattle.answers.specs.declared.KhxDecoded.{KhxDecoded}
+use Rattle.answers.specs.declared.KhxRow.{KhxRow}
 use Rattle.answers.specs.declared.KhxEntry.{KhxEntry}
 use Rattle.answers.specs.Runs.{stateOf, ranIn}
 use Rattle.answers.specs.Verdicts.{verifiedIn}
-use Rattle.answers.specs.Instructions.{decodedIn}
+use Rattle.answers.specs.Instructions.{decodedIn, rowIn}
 use Rattle.answers.specs.Written.{writtenIn}
 use Rattle.answers.specs.Packs.{checkedIn, foundIn, listedIn}
 
@@ -71,6 +73,8 @@ abbrev pub Answers : Type 0
 Answers =
     (decodedIn (decodeOf (0x25 ∷ 0x07 ∷ []) 0) ≡ record { refusal = 0; length = 2; instruction = instruction 0x25 7 })
     × (decodedIn (decodeOf (0x25 ∷ []) 0) ≡ record { refusal = 3; length = 0; instruction = instruction 0 0 })
+    × (rowIn (shapeOf 0x3B) ≡ record { refusal = 0; length = 2; taken = 0; pushed = 1 })
+    × (rowIn (shapeOf 0x5B) ≡ record { refusal = 2; length = 0; taken = 0; pushed = 0 })
     × (writtenIn (given 9) ≡ record { refusal = 0; length = 9 })
     × (writtenIn (refused 25) ≡ record { refusal = 25; length = 0 })
     × (checkedIn (given 64) ≡ record { refusal = 0; entries = 64 })

@@ -10,8 +10,8 @@ use borrow.Author.Tests.{eqb-true, ne-eqb}
 use Rattle.basis.specs.Pick.{pick}
 use Rattle.basis.proofs.Tables.{span, inside}
 use Rattle.forms.specs.Form.{formOf, codeOf, lengthOf}
-use Rattle.isa.specs.Refusals.{Inside, illegal-first}
-use Rattle.isa.proofs.Refuses.{why-refusal}
+use Rattle.decoder.specs.Refusals.{Inside, illegal-first}
+use Rattle.decoder.proofs.Refuses.{why-refusal}
 use Rattle.effects.specs.Act.{done, actOf}
 use Rattle.effects.specs.declared.Move.the-variants.{Fault}
 

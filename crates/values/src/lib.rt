@@ -4,7 +4,7 @@ ghost use mathlib.Core.Path.{_≡_};
 ghost use mathlib.Core.List.{List};
 ghost use Prim.Native.Nat.{ℕ, _≤_};
 ghost use lib.ListN.{length};
-ghost use Rattle.isa.specs.Refusals.{Inside};
+ghost use Rattle.decoder.specs.Refusals.{Inside};
 ghost use Rattle.effects.specs.Act.{done, actOf};
 use effects::Move;
 use pushes::push_values;

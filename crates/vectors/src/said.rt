@@ -1,7 +1,7 @@
 // Answers said on standard output.
 ghost use Prim.Native.Nat.{_≤_, _<_};
 ghost use lib.ListN.{length};
-use isa::Decoded;
+use decoder::Decoded;
 use isa::Instruction;
 use libc::STDOUT_FILENO;
 

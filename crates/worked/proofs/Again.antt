@@ -3,7 +3,7 @@
 use mathlib.Core.Path.{_≡_}
 use mathlib.Core.List.{List, [], _∷_, map}
 use lib.ListN.{length, replicate}
-use Rattle.isa.specs.Decode.{decodeOf}
+use Rattle.decoder.specs.Decode.{decodeOf}
 use Rattle.machine.specs.Machine.{machine, fresh}
 use Rattle.machine.specs.Run.{outcomeOf}
 use Rattle.verifier.specs.Verify.{verifyOf}

@@ -5,7 +5,7 @@ use lib.Count.{ones}
 use Rattle.forms.specs.Form.{formOf, codeOf, lengthOf, valueWidth}
 use Rattle.isa.specs.Op.{opIn, opOf}
 use Rattle.isa.specs.Shape.{depthAfter}
-use Rattle.isa.specs.Decode.{headOf, decodeOf}
+use Rattle.decoder.specs.Decode.{headOf, decodeOf}
 use Rattle.encoder.specs.Encode.{encodeOf, wellFormed, valuesGood, bytesIn}
 use Rattle.effects.specs.Act.{doOf, actOf}
 use Rattle.machine.specs.Machine.{stepOf}

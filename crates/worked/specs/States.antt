@@ -4,7 +4,7 @@ use mathlib.Core.Path.{_≡_}
 use mathlib.Core.List.{List, [], _∷_}
 use lib.ListN.{replicate}
 use Rattle.basis.specs.Answer as answer
-use Rattle.isa.specs.Decode.{decodeOf}
+use Rattle.decoder.specs.Decode.{decodeOf}
 use Rattle.machine.specs.Machine.{Machine, machine, fresh}
 use Rattle.machine.specs.Run.{Outcome, came, refused, outcomeOf}
 use Rattle.verifier.specs.Verify.{good, names, nameless, verifyOf}

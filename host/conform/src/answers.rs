@@ -1,6 +1,6 @@
 //! An answer as a line of text.
 
-use crate::engine::{Decoded, Entry, Number, Ran, Readings, State, Status, Verdict};
+use crate::engine::{Decoded, Entry, Number, Ran, Readings, Shape, State, Status, Verdict};
 
 /// An answer as it is written: a first word, then fields, each after a blank.
 #[derive(Default)]
@@ -89,6 +89,18 @@ impl Answer {
     pub fn written(&mut self, answer: Result<usize, Number>, room: &[u8]) {
         self.counted(answer.map(|length| length as u64));
         self.bytes(room);
+    }
+
+    pub fn shape(&mut self, answer: Option<Shape>) {
+        match answer {
+            Some(shape) => {
+                self.text("row");
+                self.number(shape.length as u64);
+                self.number(shape.taken as u64);
+                self.number(shape.pushed as u64);
+            }
+            None => self.text("illegal"),
+        }
     }
 
     pub fn ran(&mut self, ran: &Ran, data: &[u8], stack: &[u16]) {

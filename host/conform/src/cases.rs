@@ -1,4 +1,4 @@
-//! The eleven cases: each takes its fields, asks, and writes the answer. None where
+//! The twelve cases: each takes its fields, asks, and writes the answer. None where
 //! a field is missing, too many or outside its kind: nothing was asked then.
 
 use crate::answers::Answer;
@@ -24,6 +24,7 @@ fn asked(engine: &dyn Engine, line: &[u8]) -> Option<Answer> {
     match fields.word()? {
         b"decode" => decode(engine, fields),
         b"encode" => encode(engine, fields),
+        b"shape" => shape(engine, fields),
         b"step" => step(engine, fields),
         b"run" => run(engine, fields),
         b"verify" => verify(engine, fields),
@@ -63,6 +64,14 @@ fn encode(engine: &dyn Engine, mut fields: Fields) -> Option<Answer> {
     fields.end()?;
     let mut answer = Answer::default();
     answer.written(engine.encode(&instruction, &mut room), &room);
+    Some(answer)
+}
+
+fn shape(engine: &dyn Engine, mut fields: Fields) -> Option<Answer> {
+    let first = fields.number_u8()?;
+    fields.end()?;
+    let mut answer = Answer::default();
+    answer.shape(engine.shape(first));
     Some(answer)
 }
 

@@ -27,6 +27,17 @@ pub struct Decoded {
     pub length: usize,
 }
 
+/// A row of the table of first bytes.
+#[derive(Clone, Copy, Debug, PartialEq, Eq)]
+pub struct Shape {
+    /// The length of an instruction in bytes.
+    pub length: usize,
+    /// How many values it takes.
+    pub taken: usize,
+    /// How many values it pushes.
+    pub pushed: usize,
+}
+
 /// A machine's status.
 #[derive(Clone, Copy, Debug, PartialEq, Eq)]
 pub enum Status {
@@ -97,6 +108,9 @@ pub trait Engine {
 
     /// Writes an instruction into a room, and gives its length.
     fn encode(&self, instruction: &Instruction, room: &mut [u8]) -> Result<usize, Number>;
+
+    /// The row of a first byte; none where no instruction begins with it.
+    fn shape(&self, first: u8) -> Option<Shape>;
 
     /// One step.
     fn step(&self, program: &[u8], data: &mut [u8], stack: &mut [u16], state: State) -> Ran;

@@ -1,7 +1,7 @@
 //! The conformance protocol (docs/CONFORMANCE.md): one line in, one line out, in
 //! order, of any implementation of the machine.
 //!
-//! - [`Engine`]: the eleven questions, over plain data.
+//! - [`Engine`]: the twelve questions, over plain data.
 //! - [`Proved`] and [`Second`]: the proved library and the second implementation.
 //! - [`answer`]: the answer to one line.
 //! - [`serve`]: the answers to all lines of an input.
@@ -27,7 +27,7 @@ mod input;
 
 pub use cases::answer;
 pub use engine::{
-    Decoded, Engine, Entry, Instruction, Number, Ran, Readings, State, Status, Verdict,
+    Decoded, Engine, Entry, Instruction, Number, Ran, Readings, Shape, State, Status, Verdict,
 };
 pub use engines::{Proved, Second};
 pub use input::serve;

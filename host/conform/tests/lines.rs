@@ -44,6 +44,10 @@ fn every_family_good_and_refused() {
          refused 25 -
          encode 255 0 0 0 0 0 0 0 12
          refused 26 12
+         shape 59
+         row 2 0 1
+         shape 91
+         illegal
          step 3700 09 00000007 0 1 running
          ok 1 2 1 running 07 00000007
          step 00 - - 5 0 faulted:255
@@ -153,6 +157,12 @@ fn the_edges_of_each_range() {
          refused 26 -
          decode 85 000
          ok 1 128 5 0 0 0 0 0 0
+         shape 0
+         row 1 0 0
+         shape 255
+         row 9 0 4
+         shape 00200
+         illegal
          step 00 - - 00 0 faulted:006
          ok 0 0 0 faulted:6 - -",
     );
@@ -172,6 +182,9 @@ fn the_edges_of_each_range() {
         "encode 0 0 0 256 0 0 0 0 -",
         "encode 0 0 0 0 65536 0 0 0 -",
         "encode 0 0 0 0 0 0 0 65536 -",
+        "shape 256",
+        "shape 65595",
+        "shape 4294967355",
     ] {
         assert_bad(line.as_bytes());
     }
@@ -194,6 +207,7 @@ fn fields_outside_their_kind() {
         "", "-", "-1", "+1", "1.", "1.0", "1e1", "0x1", "a", " 1", "1 ", "1\r", "1,000", "1_0", "٣",
     ] {
         assert_bad(format!("decode 00 {field}").as_bytes());
+        assert_bad(format!("shape {field}").as_bytes());
         assert_bad(format!("run 00 - - {field} 0 running 1").as_bytes());
         assert_bad(format!("run 00 - - 0 0 running {field}").as_bytes());
         assert_bad(format!("step 00 - - 0 0 faulted:{field}").as_bytes());
@@ -219,6 +233,7 @@ fn fields_missing_and_too_many() {
     let cases = [
         "decode 00 0",
         "encode 0 0 0 0 0 0 0 0 00",
+        "shape 0",
         "step 00 - - 0 0 running",
         "run 00 - - 0 0 running 1",
         "verify 00 0 0000",
@@ -335,9 +350,10 @@ impl Seeded {
 /// line, and the engines agree.
 #[test]
 fn damaged_lines() {
-    let cases: [&[u8]; 11] = [
+    let cases: [&[u8]; 12] = [
         b"decode c901ffff20 0",
         b"encode 192 0 2 2 1 65535 0 0 aaaaaaaaaa",
+        b"shape 59",
         b"step 3700 09 00000007 0 1 running",
         b"run 833700 3d0600 00330000 0 0 faulted:6 100",
         b"verify 85831500 2 0000000000000000",

@@ -28,6 +28,14 @@ pub struct Decoded {
 }
 
 #[repr(C)]
+pub struct Row {
+    pub refusal: usize,
+    pub length: usize,
+    pub taken: usize,
+    pub pushed: usize,
+}
+
+#[repr(C)]
 pub struct Written {
     pub refusal: usize,
     pub length: usize,
@@ -75,6 +83,7 @@ extern "C" {
     fn khx_decode(program: *const u8, program_length: usize, at: usize) -> Decoded;
     fn khx_read(program: *const u8, program_length: usize, at: *mut usize) -> Decoded;
     fn khx_encode(instruction: Instruction, room: *mut u8, room_length: usize) -> Written;
+    fn khx_shape(first: u8) -> Row;
     fn khx_run(
         state: State,
         program: *const u8,
@@ -133,6 +142,10 @@ pub fn read(program: &[u8], at: &mut usize) -> Decoded {
 
 pub fn encode(instruction: Instruction, room: &mut [u8]) -> Written {
     unsafe { khx_encode(instruction, room.as_mut_ptr(), room.len()) }
+}
+
+pub fn shape(first: u8) -> Row {
+    unsafe { khx_shape(first) }
 }
 
 pub fn run(state: State, program: &[u8], data: &mut [u8], cells: &mut [u16], budget: u32) -> Ran {

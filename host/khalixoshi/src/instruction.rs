@@ -1,4 +1,5 @@
-//! Single instructions: read at an address, read one after the other, written.
+//! Single instructions: read at an address, read one after the other, written; and what
+//! their first byte alone says.
 
 use crate::{c, Error, INSTRUCTION_MAX};
 
@@ -91,6 +92,42 @@ pub fn encoded(instruction: &Instruction) -> Result<Vec<u8>, Error> {
     let mut room = [0; INSTRUCTION_MAX];
     let length = encode(instruction, &mut room)?;
     Ok(room[..length].to_vec())
+}
+
+/// What all instructions with the same first byte have.
+#[derive(Clone, Copy, Debug, PartialEq, Eq, Hash)]
+pub struct Shape {
+    /// Their length in bytes, 1 to [`INSTRUCTION_MAX`].
+    pub length: usize,
+    /// How many values they take from the stack, at most 3.
+    pub taken: usize,
+    /// How many values they push, at most 4.
+    pub pushed: usize,
+}
+
+/// One row of the table of all 256 first bytes; none where no instruction begins with
+/// the byte. A shift's second byte is not in it: over 15, [`decode`] refuses 31 and 32 by
+/// 2 as well.
+///
+/// ```
+/// use khalixoshi::{shape, Shape};
+///
+/// // call-imm8 pushes the return address
+/// assert_eq!(shape(0x3B), Some(Shape { length: 2, taken: 0, pushed: 1 }));
+/// assert_eq!(shape(0x5B), None);
+/// ```
+pub fn shape(first: u8) -> Option<Shape> {
+    let c::Row {
+        refusal,
+        length,
+        taken,
+        pushed,
+    } = c::shape(first);
+    (refusal == 0).then_some(Shape {
+        length,
+        taken,
+        pushed,
+    })
 }
 
 fn answered(decoded: c::Decoded) -> Result<Decoded, Error> {

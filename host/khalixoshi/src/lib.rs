@@ -55,7 +55,7 @@ pub mod tables;
 mod verify;
 
 pub use error::{Error, Fault};
-pub use instruction::{decode, encode, encoded, Decoded, Instruction, Reader};
+pub use instruction::{decode, encode, encoded, shape, Decoded, Instruction, Reader, Shape};
 pub use listing::{list, listing};
 pub use report::{report, verdicts};
 pub use run::{Ran, State, Status};

@@ -2,9 +2,9 @@
 
 use khalixoshi::pack::{self, Entry, Rule};
 use khalixoshi::{
-    decode, depths, encode, encoded, list, listing, report, verdicts, verify, Error, Fault,
-    Instruction, Reader, Refused, State, Status, CELLS_MAX, DATA_MAX, ENTRIES_MAX, LIST_MAX,
-    PACK_MAX, PROGRAM_MAX, REPORT_MAX, UNMET,
+    decode, depths, encode, encoded, list, listing, report, shape, verdicts, verify, Error, Fault,
+    Instruction, Reader, Refused, Shape, State, Status, CELLS_MAX, DATA_MAX, ENTRIES_MAX,
+    INSTRUCTION_MAX, LIST_MAX, PACK_MAX, PROGRAM_MAX, REPORT_MAX, UNMET,
 };
 
 const M1: [u8; 4] = [0x85, 0x83, 0x15, 0x00];
@@ -28,6 +28,25 @@ fn decode_and_reader() {
         assert_eq!((reader.read(), reader.address()), (Err(error), 0));
     }
     assert_eq!(decode(&M1, usize::MAX), Err(Error::End));
+}
+
+/// The fields are told apart, and a first byte has a row exactly where the decoder reads
+/// an instruction that begins with it, of that length.
+#[test]
+fn rows_of_first_bytes() {
+    let row = Shape {
+        length: 3,
+        taken: 2,
+        pushed: 1,
+    };
+    assert_eq!(shape(0x53), Some(row));
+    for first in 0..=255 {
+        let mut program = [0; INSTRUCTION_MAX];
+        program[0] = first;
+        let length = decode(&program, 0).map(|read| read.length);
+        let row = shape(first).map(|row| row.length);
+        assert_eq!(row.ok_or(Error::Illegal), length, "{first:02X}");
+    }
 }
 
 #[test]

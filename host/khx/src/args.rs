@@ -69,20 +69,25 @@ impl Args {
         }
     }
 
-    /// The files, which are all that is left: one for each of the names.
-    pub fn files<const N: usize>(mut self, names: &[&str; N]) -> Result<[OsString; N], Failure> {
+    /// All that is left, where no option is.
+    pub fn rest(&mut self) -> Result<Vec<OsString>, Failure> {
         if let Some(option) = self.words.iter().find(|word| is_option(word)) {
             let option = option.to_string_lossy();
             return Err(self.wrong(&format!("there is no option {option}")));
         }
-        if let Some(name) = names.get(self.words.len()) {
+        Ok(std::mem::take(&mut self.words))
+    }
+
+    /// The files, which are all that is left: one for each of the names.
+    pub fn files<const N: usize>(mut self, names: &[&str; N]) -> Result<[OsString; N], Failure> {
+        let words = self.rest()?;
+        if let Some(name) = names.get(words.len()) {
             return Err(self.wrong(&format!("no {name} is given")));
         }
-        if let Some(word) = self.words.get(N) {
+        if let Some(word) = words.get(N) {
             let word = word.to_string_lossy();
             return Err(self.wrong(&format!("one word too many: {word}")));
         }
-        let words = std::mem::take(&mut self.words);
         words.try_into().map_err(|_| self.wrong("wrong words"))
     }
 

@@ -22,7 +22,8 @@ Times the proved library against plain careful C that does the same checks, by g
 -O2, gcc -O3 and, where it was installed when khx was built, clang -O3: the fastest of
 them is the yardstick. Where code lies in memory moves its time, so each side is linked
 and timed at four places, 16 bytes apart, and the means are compared. Says whether the
-targets are met; short, copy and pack-check have none. A CASE is one of those below or
+targets are met; short, copy, pack-check, read and list have none, and the last two are
+timed alone, since that C has no reader and no listing. A CASE is one of those below or
 the beginning of some, up to a dash: verify, copy. Without a CASE, all of them.
 
   --seconds N   how long to time, all cases together (default 10)

@@ -19,6 +19,7 @@ mod pack;
 mod paths;
 mod progress;
 mod run;
+mod shapes;
 mod table;
 mod terminal;
 mod words;
@@ -39,6 +40,7 @@ usage: khx COMMAND WORDS..
   list FILE             the listing of a program, or of each rule of a pack
   run PROGRAM TABLE     runs a program over a font table, and says its verdict
   pack MANIFEST         builds a pack from its rules
+  shapes [BYTE..]       how long each instruction is, what it takes and pushes, by its first byte
   conform               answers the cases of the conformance protocol
   bench                 measures the engine against plain C
 
@@ -90,6 +92,7 @@ fn command(mut words: Vec<OsString>, out: &mut dyn Write) -> Result<Outcome, Fai
         "list" => (list::HELP, list::main),
         "run" => (run::HELP, run::main),
         "pack" => (pack::HELP, pack::main),
+        "shapes" => (shapes::HELP, shapes::main),
         "conform" => (conform::HELP, conform::main),
         "--help" | "-h" | "help" => (HELP, help),
         _ => {

@@ -11,17 +11,19 @@ use start::{
     assert_fails, assert_prints, command, file, khx, khx_reading, started, M1, PACK, ROOT,
 };
 
+const COMMANDS: [&str; 7] = ["check", "list", "run", "pack", "shapes", "conform", "bench"];
+
 #[test]
 fn help() {
     for words in [vec!["--help"], vec!["-h"], vec!["help"]] {
         let output = khx(&words);
         let text = String::from_utf8(output.stdout).unwrap();
-        for name in ["check", "list", "run", "pack", "conform", "bench"] {
+        for name in COMMANDS {
             assert!(text.contains(&format!("\n  {name} ")), "{name}");
         }
         assert_eq!(output.status.code(), Some(0));
     }
-    for name in ["check", "list", "run", "pack", "conform", "bench"] {
+    for name in COMMANDS {
         let output = khx(&[name, "--help"]);
         let text = String::from_utf8(output.stdout).unwrap();
         assert!(text.contains(&format!("usage: khx {name}")), "{text}");

@@ -82,7 +82,8 @@ pub struct Ran<F: Form> {
     state: F::State,
 }
 
-/// What a verifier or a pack check says: a refusal, and an address or a count.
+/// What a verifier, a pack check or a listing says: a refusal, and an address, a count or
+/// a length.
 #[repr(C)]
 pub struct Said<F: Form> {
     refusal: F::Number,
@@ -93,6 +94,15 @@ impl<F: Form> Said<F> {
     fn numbers(&self) -> [u32; 2] {
         [F::number(self.refusal), F::number(self.number)]
     }
+}
+
+/// What the library reads at an address. The instruction has so many bytes, and is not
+/// looked at here.
+#[repr(C)]
+pub struct Decoded {
+    refusal: usize,
+    length: usize,
+    _instruction: [u16; 7],
 }
 
 /// From a state, over program, data and cells, at most so many steps.
@@ -112,6 +122,10 @@ pub type Verify<F> = unsafe extern "C" fn(*const u8, usize, usize, *mut u16, usi
 pub type VerifyByCursor =
     unsafe extern "C" fn(*const u8, usize, usize, *mut u16, usize, *mut u8) -> Said<Plain>;
 pub type PackCheck<F> = unsafe extern "C" fn(*const u8, usize) -> Said<F>;
+/// The instruction at an address, which is then moved past it.
+pub type Read = unsafe extern "C" fn(*const u8, usize, *mut usize) -> Decoded;
+/// The listing of a program, into a room.
+pub type List = unsafe extern "C" fn(*const u8, usize, *mut u8, usize) -> Said<Proved>;
 
 /// One function at each of its places.
 pub type Copies<Function> = [Function; PLACES];
@@ -222,6 +236,39 @@ impl Cursor {
         let (program, map, done) = (program.as_ptr(), map.as_mut_ptr(), done.as_mut_ptr());
         // SAFETY: each pointer is a slice's own, with its length; `done` has the program's.
         let said = unsafe { (self.0[place])(program, length, cells, map, map_length, done) };
+        said.numbers()
+    }
+}
+
+/// The reader, which the library alone has.
+pub struct Reader(pub(crate) Copies<Read>);
+
+impl Reader {
+    /// Reads a program from its start to the first refusal, an instruction a call: the
+    /// refusal, the address there, and how many instructions were read.
+    pub fn read(&self, place: usize, program: &[u8]) -> [u32; 3] {
+        let (mut at, mut count) = (0, 0);
+        loop {
+            // SAFETY: the pointer is the slice's own, with its length; `at` is lent alone.
+            let read = unsafe { (self.0[place])(program.as_ptr(), program.len(), &mut at) };
+            if read.refusal != 0 {
+                return [read.refusal as u32, at as u32, count];
+            }
+            count += 1;
+        }
+    }
+}
+
+/// The listing, which the library alone has.
+pub struct Lister(pub(crate) Copies<List>);
+
+impl Lister {
+    /// Writes a listing into a room: the refusal, and its length.
+    pub fn list(&self, place: usize, program: &[u8], room: &mut [u8]) -> [u32; 2] {
+        let (length, room_length) = (program.len(), room.len());
+        let (program, room) = (program.as_ptr(), room.as_mut_ptr());
+        // SAFETY: each pointer is a slice's own, with its length.
+        let said = unsafe { (self.0[place])(program, length, room, room_length) };
         said.numbers()
     }
 }

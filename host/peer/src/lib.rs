@@ -6,8 +6,10 @@
 
 mod functions;
 
-use functions::{copies, Copies, PackCheck, Run, Verify, VerifyByCursor};
-pub use functions::{Cursor, Form, Functions, Measured, Memmove, Plain, Proved, HALTED};
+use functions::{copies, Copies, List, PackCheck, Read, Run, Verify, VerifyByCursor};
+pub use functions::{
+    Cursor, Form, Functions, Lister, Measured, Memmove, Plain, Proved, Reader, HALTED,
+};
 
 /// Each function is linked so many times.
 pub const PLACES: usize = 4;
@@ -46,11 +48,17 @@ macro_rules! functions {
 /// The sides, from the names of their copies.
 macro_rules! sides {
     (
-        proved $run:tt $verify:tt $pack_check:tt;
+        proved $run:tt $verify:tt $pack_check:tt $read:tt $list:tt;
         $($name:literal $version:literal $c_run:tt $c_verify:tt $c_pack_check:tt $c_cursor:tt $c_memmove:tt;)*
     ) => {
         /// The proved library.
         pub static PROVED: Functions<Proved> = functions!(Proved, $run $verify $pack_check);
+
+        /// The proved library's reader.
+        pub static READER: Reader = Reader(copies!(Read, $read));
+
+        /// The proved library's listing.
+        pub static LISTER: Lister = Lister(copies!(List, $list));
 
         /// The builds of the C that are measured: what a user would write instead is
         /// compiled by the best compiler at hand.
@@ -86,7 +94,10 @@ fn place_of(address: usize) -> Option<usize> {
 
 /// An error where a copy does not lie where it should.
 pub fn check_places() -> Result<(), String> {
-    check_functions("the proved library", &PROVED)?;
+    let proved = "the proved library";
+    check_functions(proved, &PROVED)?;
+    check(proved, "read", READER.0.map(|copy| copy as usize))?;
+    check(proved, "list", LISTER.0.map(|copy| copy as usize))?;
     for build in BUILDS {
         let side = format!("C by {}", build.name);
         check_functions(&side, &build.functions)?;

@@ -5,6 +5,7 @@
 //! - [`opcodes`]: document 004's table, as data.
 //! - [`numbers`]: the numbers and sizes of 01.
 //! - [`instruction`]: the decoder and the encoder of single instructions.
+//! - [`shape`]: the table of first bytes.
 //! - [`machine`]: the step and the run.
 //! - [`verifier`]: the walk and its depth map.
 //! - [`pack`]: rule packs, read and written.
@@ -27,4 +28,5 @@ pub mod pack;
 pub mod protocol;
 pub mod reader;
 pub mod report;
+pub mod shape;
 pub mod verifier;

@@ -5,6 +5,7 @@
 use crate::instruction::Instruction;
 use crate::machine::{Answer, State, Status};
 use crate::pack::Entry;
+use crate::shape::Shape;
 use crate::verifier::Verdict;
 
 /// Bytes as one field.
@@ -63,6 +64,18 @@ pub fn length_or_refusal(answer: &Result<usize, u32>) -> String {
     match answer {
         Ok(length) => format!("ok {length}"),
         Err(number) => format!("refused {number}"),
+    }
+}
+
+/// The answer of `shape`.
+pub fn shape_answer(answer: &Option<Shape>) -> String {
+    match answer {
+        Some(Shape {
+            length,
+            taken,
+            pushed,
+        }) => format!("row {length} {taken} {pushed}"),
+        None => "illegal".to_string(),
     }
 }
 
@@ -129,6 +142,7 @@ mod tests {
     use crate::machine::{run, FRESH};
     use crate::pack;
     use crate::report::report;
+    use crate::shape::shape;
     use crate::verifier::verify;
 
     #[test]
@@ -149,6 +163,13 @@ mod tests {
         assert_eq!(room_answer(&answer, &room), "ok 1 00cd");
         let answer = encode(&halt, &mut []);
         assert_eq!(room_answer(&answer, &[]), "refused 25 -");
+    }
+
+    /// The protocol's own example; then a first byte of no instruction.
+    #[test]
+    fn shape_lines() {
+        assert_eq!(shape_answer(&shape(0x3B)), "row 2 0 1");
+        assert_eq!(shape_answer(&shape(0x5B)), "illegal");
     }
 
     /// The protocol's own example, which is M1.

@@ -1,4 +1,4 @@
-//! Cases of decode and encode.
+//! Cases of decode, encode and shape.
 
 use crate::damage::damage;
 use crate::forms::{Form, LAST};
@@ -95,6 +95,16 @@ impl Maker<'_> {
             .iter()
             .fold(line, |line, &each| line.number(each));
         line.bytes(&room)
+    }
+
+    /// `shape FIRST`: all first bytes are alike likely; at times a number that is none.
+    pub fn shape(&mut self) -> Line {
+        let first = match self.source.below(16) {
+            0 => self.source.near(256),
+            1 => self.source.number().into(),
+            _ => self.source.byte().into(),
+        };
+        Line::new("shape").size(first)
     }
 
     /// A value that can be encoded, mostly.

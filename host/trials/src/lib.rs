@@ -83,7 +83,8 @@ impl Maker<'_> {
             false => self.source.below(32),
         };
         match drawn {
-            0..=2 => self.decode(),
+            0 | 1 => self.decode(),
+            2 => self.shape(),
             3..=5 => self.encode(),
             6..=10 => self.step(),
             11..=16 => self.run(),

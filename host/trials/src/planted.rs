@@ -2,7 +2,8 @@
 //! one easy error.
 
 use conform::{
-    Decoded, Engine, Entry, Instruction, Number, Ran, Readings, Second, State, Status, Verdict,
+    Decoded, Engine, Entry, Instruction, Number, Ran, Readings, Second, Shape, State, Status,
+    Verdict,
 };
 
 /// The second implementation with an error.
@@ -12,22 +13,27 @@ pub enum Planted {
     Sum,
     /// dcopy copies one byte at a time, lowest address first, as it did before No. 2.
     Copy,
+    /// The row of call-imm8 has what it takes and what it pushes exchanged.
+    Shape,
 }
 
 /// The code of ld-u16-offs.
 const LOAD: u8 = 0x20;
 /// The code of dcopy.
 const DATA_COPY: u8 = 0x02;
+/// The code of call-imm8.
+const CALL: u8 = 0x3B;
 
 impl Planted {
     /// All of them.
-    pub const ALL: [Planted; 2] = [Planted::Sum, Planted::Copy];
+    pub const ALL: [Planted; 3] = [Planted::Sum, Planted::Copy, Planted::Shape];
 
     /// Its word on the command line.
     pub fn name(self) -> &'static str {
         match self {
             Planted::Sum => "sum",
             Planted::Copy => "copy",
+            Planted::Shape => "shape",
         }
     }
 }
@@ -94,6 +100,7 @@ impl Engine for Planted {
         match self {
             Planted::Sum => step_by_sum(program, data, stack, state),
             Planted::Copy => step_by_copy(program, data, stack, state),
+            Planted::Shape => Second.step(program, data, stack, state),
         }
     }
 
@@ -125,6 +132,18 @@ impl Engine for Planted {
 
     fn encode(&self, instruction: &Instruction, room: &mut [u8]) -> Result<usize, Number> {
         Second.encode(instruction, room)
+    }
+
+    fn shape(&self, first: u8) -> Option<Shape> {
+        let row = Second.shape(first)?;
+        match (self, first) {
+            (Planted::Shape, CALL) => Some(Shape {
+                taken: row.pushed,
+                pushed: row.taken,
+                ..row
+            }),
+            _ => Some(row),
+        }
     }
 
     fn verify(&self, program: &[u8], cells: usize, map: &mut [u16]) -> Verdict {
@@ -207,6 +226,17 @@ mod tests {
                 b"step 03 01020304 000100000001 0 3 running",
             ],
         );
+    }
+
+    #[test]
+    fn a_row_wrong_in_one_place() {
+        let call: &[u8] = b"shape 59";
+        assert_eq!(answer(&Second, call), "row 2 0 1");
+        assert_eq!(answer(&Planted::Shape, call), "row 2 1 0");
+        let others = (0..=255).filter(|first| *first != CALL);
+        let lines: Vec<String> = others.map(|first| format!("shape {first}")).collect();
+        let lines: Vec<&[u8]> = lines.iter().map(String::as_bytes).collect();
+        alike(Planted::Shape, &lines);
     }
 
     fn alike(planted: Planted, lines: &[&[u8]]) {

@@ -13,9 +13,10 @@ pub struct Tally {
 }
 
 /// The families of the protocol, in its order.
-const FAMILIES: [&str; 11] = [
+const FAMILIES: [&str; 12] = [
     "decode",
     "encode",
+    "shape",
     "step",
     "run",
     "verify",
@@ -91,6 +92,8 @@ fn plain(answer: &str) -> Kind {
         Some("refused") => Kind::Refused(number(words.next())),
         Some("accepted") => Kind::Good("accepted"),
         Some("found") => Kind::Good("found"),
+        Some("row") => Kind::Good("row"),
+        Some("illegal") => Kind::Good("illegal"),
         _ => done(words.nth(3)),
     }
 }
@@ -167,7 +170,7 @@ mod tests {
 
     #[test]
     fn kinds_of_answers() {
-        let kinds: [(&[u8], &str, &str, Kind); 12] = [
+        let kinds: [(&[u8], &str, &str, Kind); 14] = [
             (
                 b"decode 00 0",
                 "ok 1 0 0 0 0 0 0 0 0",
@@ -175,6 +178,8 @@ mod tests {
                 Kind::Good("ok"),
             ),
             (b"decode 00 1", "refused 1", "decode", Kind::Refused(1)),
+            (b"shape 59", "row 2 0 1", "shape", Kind::Good("row")),
+            (b"shape 91", "illegal", "shape", Kind::Good("illegal")),
             (
                 b"run a",
                 "ok 4 3 1 halted - 0003",

@@ -31,9 +31,10 @@ fn the_same_seed_gives_the_same_cases() {
 }
 
 /// The refusals and faults that 01 has for each family.
-const NUMBERS: [(&str, &[u32], &[u32]); 11] = [
+const NUMBERS: [(&str, &[u32], &[u32]); 12] = [
     ("decode", &[1, 2, 3, 20], &[]),
     ("encode", &[25, 26], &[]),
+    ("shape", &[], &[]),
     ("step", &[20, 21, 22, 24], &[1, 2, 3, 4, 5, 6, 7, 8]),
     ("run", &[20, 21, 22, 24], &[1, 2, 3, 4, 5, 6, 7, 8]),
     ("verify", &[1, 2, 3, 4, 5, 8, 9, 10, 20, 22, 23], &[]),
@@ -46,9 +47,10 @@ const NUMBERS: [(&str, &[u32], &[u32]); 11] = [
 ];
 
 /// The other answers of each family.
-const GOOD: [(&str, &[&str]); 13] = [
+const GOOD: [(&str, &[&str]); 14] = [
     ("decode", &["ok"]),
     ("encode", &["ok"]),
+    ("shape", &["illegal", "row"]),
     ("step", &["halted", "running"]),
     ("run", &["halted", "running"]),
     ("verify", &["accepted"]),
@@ -118,6 +120,7 @@ fn at_the_limits_and_past_them() {
     }
     sizes_at_the_limits(&lines);
     numbers_at_the_limits(&lines);
+    all_first_bytes(&lines);
 }
 
 fn sizes_at_the_limits(lines: &[Vec<u8>]) {
@@ -138,6 +141,13 @@ fn sizes_at_the_limits(lines: &[Vec<u8>]) {
         let sizes: BTreeSet<usize> = words.map(|word| word.len() / digits).collect();
         let all = sizes.contains(&limit) && sizes.contains(&(limit + 1));
         assert!(all, "{family} {field}");
+    }
+}
+
+fn all_first_bytes(lines: &[Vec<u8>]) {
+    let found: BTreeSet<&[u8]> = fields(lines, "shape", 0).collect();
+    for first in 0..=258 {
+        assert!(found.contains(first.to_string().as_bytes()), "{first}");
     }
 }
 

@@ -20,13 +20,14 @@ fn no_difference() {
     assert_eq!(differences(&Second).len(), 0);
 }
 
-/// In steps and runs alone.
-fn noticed(planted: Planted) -> Vec<Difference> {
+/// In these families alone.
+fn noticed(planted: Planted, families: &[&str]) -> Vec<Difference> {
     let found = differences(&planted);
     assert!(!found.is_empty());
     for difference in &found {
         let line = String::from_utf8_lossy(&difference.line);
-        assert!(line.starts_with("run ") || line.starts_with("step "));
+        let family = line.split(' ').next().unwrap_or_default();
+        assert!(families.contains(&family), "{line}");
     }
     found
 }
@@ -34,7 +35,7 @@ fn noticed(planted: Planted) -> Vec<Difference> {
 /// Where the proved library faults by 6 and the planted error does not.
 #[test]
 fn a_planted_sum_is_noticed() {
-    for difference in noticed(Planted::Sum) {
+    for difference in noticed(Planted::Sum, &["run", "step"]) {
         assert!(difference.answers[0].contains(" faulted:6 "));
     }
 }
@@ -42,7 +43,7 @@ fn a_planted_sum_is_noticed() {
 /// Where both did the copy, and of a step only the data differ.
 #[test]
 fn a_planted_copy_is_noticed() {
-    let found = noticed(Planted::Copy);
+    let found = noticed(Planted::Copy, &["run", "step"]);
     let steps: Vec<&Difference> = found
         .iter()
         .filter(|it| it.line.starts_with(b"step "))
@@ -50,6 +51,15 @@ fn a_planted_copy_is_noticed() {
     assert!(!steps.is_empty());
     for Difference { answers, .. } in steps {
         assert_eq!(but_data(&answers[0]), but_data(&answers[1]));
+    }
+}
+
+/// In the one row, by its two numbers.
+#[test]
+fn a_planted_row_is_noticed() {
+    for difference in noticed(Planted::Shape, &["shape"]) {
+        assert_eq!(difference.line, b"shape 59");
+        assert_eq!(difference.answers, ["row 2 0 1", "row 2 1 0"]);
     }
 }
 

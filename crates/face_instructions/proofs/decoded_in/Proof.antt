@@ -1,8 +1,8 @@
 -- `face_instructions::decoded_in` meets its contract.
 -- Assumes nothing.
 use mathlib.Core.Path.{sym, ap}
-use Rattle.isa.specs.Decode.{decodedAnswer}
-use Rattle.isa.specs.declared.Decoded.{Decoded}
+use Rattle.decoder.specs.Decode.{decodedAnswer}
+use Rattle.decoder.specs.declared.Decoded.{Decoded}
 use Rattle.answers.specs.Instructions.{decodedIn}
 use borrow.Author.Needs.{needs}
 use Rattle.face_instructions.proofs.decoded_in.Statement.{statement}

@@ -1,7 +1,7 @@
 -- `lines::line_length` meets its contract.
 -- Assumes nothing.
 use native.Mathlib.Omega.{arith}
-use Rattle.isa.specs.Decode.{decodedAnswer}
+use Rattle.decoder.specs.Decode.{decodedAnswer}
 use Rattle.lines.proofs.Written.{length-line}
 use borrow.Author.Needs.{needs}
 use Rattle.lines.proofs.line_length.Statement.{statement}

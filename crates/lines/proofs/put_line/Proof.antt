@@ -5,7 +5,7 @@ use native.Mathlib.Omega.{arith}
 use mathlib.Core.Path.{_≡_, _∙_}
 use lib.ListN.{length, length-set}
 use denote.Ref.{now}
-use Rattle.isa.specs.Decode.{decodedAnswer}
+use Rattle.decoder.specs.Decode.{decodedAnswer}
 use Rattle.lines.proofs.Written.{length-said, length-line, put-line}
 use Rattle.lines.proofs.put_line.Statement.{statement}
 use Rattle.lines.proofs.put_line.Tie as tie

@@ -53,9 +53,9 @@ use denote.Triple.Table.{entered, cited}
 use denote.Triple.Walked.{says, Stays, stay-dropped, walkOf, goes-dropped, Walks, ends-at, walked, walk-meets}
 use denote.Builtin.{SliceRefOf}
 use denote.Exit.{yes}
-use Rattle.isa.specs.declared.Decoded.{Decoded}
-use Rattle.isa.proofs.Decoded as De
-use Rattle.isa.proofs.Decoded.Laws as De′
+use Rattle.decoder.specs.declared.Decoded.{Decoded}
+use Rattle.decoder.proofs.Decoded as De
+use Rattle.decoder.proofs.Decoded.Laws as De′
 use Rattle.reader.specs.Turn.{turnOf, turnAnswer}
 use Rattle.reader.specs.declared.Reader.{Reader}
 use Rattle.reader.specs.declared.Turn.{Turn}

@@ -43,14 +43,14 @@ use denote.Triple.Table.{entered, cited}
 use denote.Triple.Walked.{says, Stays, stay-none-slice, walkOf, goes-none-slice, Walks, ends-at, walked, walk-meets}
 use denote.Exit.{yes}
 use denote.Triple.Clauses.{ensured, lasts}
-use Rattle.isa.specs.Decode.{decodeOf, decodedAnswer}
-use Rattle.isa.specs.declared.Decoded.{Decoded}
+use Rattle.decoder.specs.Decode.{decodeOf, decodedAnswer}
+use Rattle.decoder.specs.declared.Decoded.{Decoded}
 use Rattle.reader.specs.declared.Reader.{Reader}
 use Rattle.reader.proofs.Operands.{lastIn, numberOf}
 use Rattle.reader.proofs.Reader as T
 use Rattle.reader.proofs.Reader.Laws as T′
-use Rattle.isa.proofs.Decoded as S
-use Rattle.isa.proofs.Decoded.Laws as S′
+use Rattle.decoder.proofs.Decoded as S
+use Rattle.decoder.proofs.Decoded.Laws as S′
 use Rattle.reader.proofs.peek as peek
 use Rattle.reader.proofs.peek.Symbol as peek-def
 use Rattle.reader.proofs.peek.Symbol.{name as #reader·peek}

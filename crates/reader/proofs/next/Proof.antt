@@ -49,8 +49,8 @@ use denote.Triple.Entry.{Vals, onEntry}
 use denote.Triple.Spec.{Meets, tripleOf}
 use denote.Triple.Table.{entered, cited}
 use denote.Triple.Walked.{says, Stays, stay-ref, walkOf, goes-ref, Walks, ends-at, walked, walk-meets}
-use Rattle.isa.proofs.Decoded as De
-use Rattle.isa.proofs.Decoded.Laws as De′
+use Rattle.decoder.proofs.Decoded as De
+use Rattle.decoder.proofs.Decoded.Laws as De′
 use Rattle.reader.specs.Turn.{turnOf, turnAnswer}
 use Rattle.reader.specs.declared.Reader.{Reader}
 use Rattle.reader.specs.declared.Turn.{Turn}

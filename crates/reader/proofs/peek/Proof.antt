@@ -1,6 +1,6 @@
--- `reader::peek` meets its contract: a walk of its code, by hand. The struct is taken apart, and `isa::decode` is
+-- `reader::peek` meets its contract: a walk of its code, by hand. The struct is taken apart, and `decoder::decode` is
 -- called on the slice and on the address that the code sets; that this is the reader's is a fact of its own. All that the
--- proof knows of `isa::decode` is that it meets its contract. The struct is Copy: what it owns is had twice, one copy is
+-- proof knows of `decoder::decode` is that it meets its contract. The struct is Copy: what it owns is had twice, one copy is
 -- kept whole for the exit, and of the other what the program owns goes to the callee, beside the lifetime's token, which
 -- comes back.
 -- Assumes nothing.
@@ -47,18 +47,18 @@ use denote.Triple.Table.{entered, cited}
 use denote.Triple.Walked.{says, Stays, stay-none, walkOf, goes-none, Walks, ends-at, walked, walk-meets}
 use denote.Exit.{yes}
 use denote.Triple.Clauses.{ensured, lasts}
-use Rattle.isa.specs.Decode.{decodeOf, decodedAnswer}
-use Rattle.isa.specs.declared.Decoded.{Decoded}
+use Rattle.decoder.specs.Decode.{decodeOf, decodedAnswer}
+use Rattle.decoder.specs.declared.Decoded.{Decoded}
 use Rattle.reader.specs.declared.Reader.{Reader}
 use Rattle.reader.proofs.Operands.{lastIn, numberOf, number-fits, reads}
 use Rattle.reader.proofs.Reader as T
 use Rattle.reader.proofs.Reader.Laws as T′
-use Rattle.isa.proofs.Decoded as S
-use Rattle.isa.proofs.Decoded.Laws as S′
-use Rattle.isa.proofs.decode as decode
-use Rattle.isa.proofs.decode.Symbol as decode-def
-use Rattle.isa.proofs.decode.Symbol.{name as #isa·decode}
-use Rattle.isa.proofs.decode.Met as decode-thm
+use Rattle.decoder.proofs.Decoded as S
+use Rattle.decoder.proofs.Decoded.Laws as S′
+use Rattle.decoder.proofs.decode as decode
+use Rattle.decoder.proofs.decode.Symbol as decode-def
+use Rattle.decoder.proofs.decode.Symbol.{name as #decoder·decode}
+use Rattle.decoder.proofs.decode.Met as decode-thm
 use Rattle.reader.proofs.peek.Key.{name as #reader·peek}
 use Rattle.reader.proofs.peek as peek
 use Rattle.reader.proofs.peek.Statement as stated
@@ -145,7 +145,7 @@ module _ {M : Type 1} (𝓤 : URA M) (H : Heap 𝓤) (A : Atoms 𝓤) (W : Given
       suffices ! _ (ends-at 𝓤 H A peek.ended stayed (peek.clauses 𝓤 H A mem run) W (((κ, tt), (q, tt), tt, (d, tt), (mach ∷ [], tt)), tt) u r (tt, tt) (tt, tt)) $ says ! (subst (λ (m : ℕ). decodedAnswer r ≡ decodeOf (now (d .program)) m) (reads-here (d .at)) e) $
       move ! (1 ∷ []) $ frame ! $ nothing ! $ move ! (2 ∷ 0 ∷ []) $ fjoin ! $ frame ! $ done !
 
-  module _ (C : Calls 𝓤 H) (Λ : Loops 𝓤 H) (fm : FmC 𝓤 H (W .laws) C) (known : Triple 𝓤 (C #isa·decode) (Decodes 𝓤 H A mem run)) where
+  module _ (C : Calls 𝓤 H) (Λ : Loops 𝓤 H) (fm : FmC 𝓤 H (W .laws) C) (known : Triple 𝓤 (C #decoder·decode) (Decodes 𝓤 H A mem run)) where
     walk : Holds (hasTy (T′.mir (named 0)) mach) × WT mach → ent 𝓤 (onEntry 𝓤 H A peek.signature (κ, tt) (q, tt) (d, tt) (mach ∷ [], tt)) (WpFn 𝓤 H C Λ code.function (mach ∷ []) Post)
     walk wt =
         let ok = number-fits (lastIn lines.s-1) (d .at) tt (wt .1 .1 .0 .fits) in
@@ -164,13 +164,13 @@ module _ {M : Type 1} (𝓤 : URA M) (H : Heap 𝓤) (A : Atoms 𝓤) (W : Given
         move ! (9 ∷ 10 ∷ []) $ free1 ! $ move ! (7 ∷ 8 ∷ []) $ free1 ! $ move ! (5 ∷ 6 ∷ []) $ free1 ! $ move ! (3 ∷ 4 ∷ []) $ free1 ! $ free0 ! $ by ! (exits r u e)))))))))
 
 module _ {M : Type 1} (𝓤 : URA M) (H : Heap 𝓤) (A : Atoms 𝓤) (W : Given 𝓤 H A) (mem : Memory → SProp 𝓤) (run : Routine → Fun 𝓤) where
-  peek-walks : (C : Calls 𝓤 H) (Λ : Loops 𝓤 H) → FmC 𝓤 H (W .laws) C → Triple 𝓤 (C #isa·decode) (Decodes 𝓤 H A mem run)
+  peek-walks : (C : Calls 𝓤 H) (Λ : Loops 𝓤 H) → FmC 𝓤 H (W .laws) C → Triple 𝓤 (C #decoder·decode) (Decodes 𝓤 H A mem run)
       → Walks 𝓤 H A peek.ended stayed (WpFn 𝓤 H C Λ code.function) (peek.clauses 𝓤 H A mem run)
   peek-walks C Λ fm known = walked 𝓤 H A peek.ended stayed (peek.clauses 𝓤 H A mem run) (WpFn 𝓤 H C Λ code.function) (λ κs. (LL.vals (T.the-type (namedLft 1 0 tt κs)) (T′.the-laws (namedLft 1 0 tt κs)), tt)) (λ κs. (LL.tells (T.the-type (namedLft 1 0 tt κs)) (T′.the-laws (namedLft 1 0 tt κs)), tt))
       (λ κs qs bounds a g are. via 𝓤 _ (fst∗ 𝓤 _ (emp 𝓤)) (walk 𝓤 H A W mem run (κs .0) (qs .0) (a .0) C Λ fm known (LL.lawful (T.the-type (namedLft 1 0 tt κs)) (T′.the-laws (namedLft 1 0 tt κs)) 𝓤 H A W .typed (a .0) _ (are .0) .0)))
 
 peek-meets : {M : Type 1} (𝓤 : URA M) (H : Heap 𝓤) (A : Atoms 𝓤) (W : Given 𝓤 H A) (mem : Memory → SProp 𝓤) (run : Routine → Fun 𝓤) (𝓣 : Tables 𝓤 H)
-    → Triple 𝓤 (𝓣 .C #isa·decode) (Decodes 𝓤 H A mem run)
+    → Triple 𝓤 (𝓣 .C #decoder·decode) (Decodes 𝓤 H A mem run)
     → Meets 𝓤 H A peek.signature (WpFn 𝓤 H (𝓣 .C) (𝓣 .Λ) code.function) (peek.spec 𝓤 H A mem run)
 peek-meets 𝓤 H A W mem run 𝓣 known-decode = walk-meets 𝓤 H A peek.ended stayed W (goes-none 𝓤 H A W 1 B yes (λ κs x f. refl), tt) (peek.clauses 𝓤 H A mem run) (WpFn 𝓤 H (𝓣 .C) (𝓣 .Λ) code.function) (WpFn-mono 𝓤 H (W .laws) 𝓣 code.function)
     (peek-walks 𝓤 H A W mem run (𝓣 .C) (𝓣 .Λ) (fmOf 𝓤 H (W .laws) 𝓣) known-decode)
@@ -181,4 +181,4 @@ peek-spec 𝓤 H 𝓜 𝓖 𝓡 =
     entered 𝓤 H (tripleOf 𝓤 H (𝓖 .A) peek.signature (peek.spec 𝓤 H (𝓖 .A) (𝓜 .mem) (𝓡 .run)))
     (tables 𝓤 H 𝓜 𝓡 code.env .C) (tables 𝓤 H 𝓜 𝓡 code.env .Λ) #reader·peek code.function (code.unfolded 𝓤 H 𝓜 𝓡)
     (peek-meets 𝓤 H (𝓖 .A) (givenOf 𝓤 H 𝓜 𝓖) (𝓜 .mem) (𝓡 .run) (tablesOf 𝓤 H 𝓜 (tables 𝓤 H 𝓜 𝓡 code.env))
-    (cited 𝓤 H (Decodes 𝓤 H (𝓖 .A) (𝓜 .mem) (𝓡 .run)) 𝓜 𝓡 code.env #isa·decode decode-def.routine code.calls-isa·decode (decode-thm.met 𝓤 H 𝓜 𝓖 𝓡)))
+    (cited 𝓤 H (Decodes 𝓤 H (𝓖 .A) (𝓜 .mem) (𝓡 .run)) 𝓜 𝓡 code.env #decoder·decode decode-def.routine code.calls-decoder·decode (decode-thm.met 𝓤 H 𝓜 𝓖 𝓡)))

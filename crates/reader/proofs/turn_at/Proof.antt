@@ -2,7 +2,7 @@
 -- Assumes nothing.
 use native.Mathlib.Omega.{arith}
 use borrow.Author.Needs.{needs}
-use Rattle.isa.proofs.Lengths.{read-length}
+use Rattle.decoder.proofs.Lengths.{read-length}
 use Rattle.reader.proofs.Turns.{decoded-read, turn-read, turn-refused}
 use Rattle.reader.proofs.turn_at.Statement.{statement}
 use Rattle.reader.proofs.turn_at.Tie as tie

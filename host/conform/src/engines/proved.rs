@@ -1,7 +1,7 @@
 //! The proved library.
 
 use crate::engine::{
-    Decoded, Engine, Entry, Instruction, Number, Ran, Readings, State, Status, Verdict,
+    Decoded, Engine, Entry, Instruction, Number, Ran, Readings, Shape, State, Status, Verdict,
 };
 use khalixoshi::{pack, Error, Fault, Reader};
 
@@ -23,6 +23,15 @@ impl Engine for Proved {
             values: instruction.values,
         };
         khalixoshi::encode(&instruction, room).map_err(Error::number)
+    }
+
+    fn shape(&self, first: u8) -> Option<Shape> {
+        let shape = khalixoshi::shape(first)?;
+        Some(Shape {
+            length: shape.length,
+            taken: shape.taken,
+            pushed: shape.pushed,
+        })
     }
 
     fn step(&self, program: &[u8], data: &mut [u8], stack: &mut [u16], state: State) -> Ran {

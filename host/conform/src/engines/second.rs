@@ -1,9 +1,9 @@
 //! The second implementation.
 
 use crate::engine::{
-    Decoded, Engine, Entry, Instruction, Number, Ran, Readings, State, Status, Verdict,
+    Decoded, Engine, Entry, Instruction, Number, Ran, Readings, Shape, State, Status, Verdict,
 };
-use ::second::{instruction, listing, machine, pack, reader, report, verifier};
+use ::second::{instruction, listing, machine, pack, reader, report, shape, verifier};
 
 /// The second implementation, which shares no code with the proved library.
 #[derive(Clone, Copy, Debug, Default)]
@@ -23,6 +23,15 @@ impl Engine for Second {
             values: instruction.values,
         };
         instruction::encode(&instruction, room).map_err(number)
+    }
+
+    fn shape(&self, first: u8) -> Option<Shape> {
+        let shape = shape::shape(first)?;
+        Some(Shape {
+            length: shape.length,
+            taken: shape.taken,
+            pushed: shape.pushed,
+        })
     }
 
     fn step(&self, program: &[u8], data: &mut [u8], stack: &mut [u16], state: State) -> Ran {

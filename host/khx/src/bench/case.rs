@@ -41,6 +41,11 @@ impl fmt::Display for Side {
     }
 }
 
+/// The proved library, where C has no such function.
+pub fn ours_alone() -> Vec<Side> {
+    vec![Side::Proved]
+}
+
 /// The proved library, and C by each of its builds.
 pub fn both() -> Vec<Side> {
     let builds = (0..peer::BUILDS.len()).map(Side::C);

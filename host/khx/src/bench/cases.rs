@@ -1,7 +1,7 @@
 //! The cases, each with the work of its sides.
 
 use khalixoshi::tables::{Facts, Lending, BUDGET};
-use khalixoshi::{pack, CELLS_MAX, PACK_MAX, UNMET};
+use khalixoshi::{pack, CELLS_MAX, LIST_MAX, PACK_MAX, UNMET};
 
 use super::case::{self, Answer, Case, Side, Unit, Work};
 use super::programs;
@@ -48,14 +48,21 @@ pub fn all() -> Vec<Case> {
             "run: the shipped rule for loca over a real table of 3,378 offsets",
             Run::of_rule(LOCA, include_bytes!("tables/loca")),
         ),
-        Case {
-            unit: Unit::Call,
-            ..run(
-                "short",
-                "run: the shipped rule for OS/2 over a real table, 52 steps, each call from a fresh state",
-                Run::of_rule(OS2, include_bytes!("tables/os2")),
-            )
-        },
+        short(
+            "short",
+            "run: the shipped rule for OS/2 over a real table, 52 steps, each call from a fresh state",
+            Run::of_rule(OS2, include_bytes!("tables/os2")),
+        ),
+        short(
+            "short-20",
+            "run: the same of a rule that looks at 4 bytes, 20 steps",
+            Run::of(programs::looks(4), vec![0; 4], 1),
+        ),
+        short(
+            "short-100",
+            "run: the same of a rule that looks at 24 bytes, 100 steps",
+            Run::of(programs::looks(24), vec![0; 24], 1),
+        ),
         copy(
             "copy-up",
             "run: a dcopy of 30,000 bytes, 12 bytes up, so that its ranges overlap",
@@ -101,6 +108,12 @@ pub fn all() -> Vec<Case> {
             unit: Unit::Call,
             work: Box::new(PackCheck { pack: full_pack() }),
         },
+        read(
+            "read",
+            "read: 16 KB, random instructions of all kinds, one after the other",
+            programs::random(),
+        ),
+        list("list", "list: the same program", programs::random()),
     ]
 }
 
@@ -112,6 +125,14 @@ fn run(name: &'static str, about: &'static str, mut work: Run) -> Case {
         sides: case::both(),
         unit: Unit::Step(steps),
         work: Box::new(work),
+    }
+}
+
+/// A run that is told by the call.
+fn short(name: &'static str, about: &'static str, work: Run) -> Case {
+    Case {
+        unit: Unit::Call,
+        ..run(name, about, work)
     }
 }
 
@@ -136,6 +157,28 @@ fn verify(name: &'static str, about: &'static str, program: Vec<u8>) -> Case {
         sides: case::all_verifiers(),
         unit: Unit::Instructions(met as u32),
         work: Box::new(work),
+    }
+}
+
+fn read(name: &'static str, about: &'static str, program: Vec<u8>) -> Case {
+    let [_, _, instructions] = peer::READER.read(0, &program);
+    Case {
+        name,
+        about,
+        sides: case::ours_alone(),
+        unit: Unit::Instructions(instructions),
+        work: Box::new(Read { program }),
+    }
+}
+
+fn list(name: &'static str, about: &'static str, program: Vec<u8>) -> Case {
+    let room = vec![0; LIST_MAX];
+    Case {
+        work: Box::new(List {
+            program: program.clone(),
+            room,
+        }),
+        ..read(name, about, program)
     }
 }
 
@@ -258,6 +301,45 @@ impl Work for PackCheck {
     }
 }
 
+/// A program read to its end; it is only read.
+struct Read {
+    program: Vec<u8>,
+}
+
+impl Work for Read {
+    fn clear(&mut self) {}
+
+    fn call(&mut self, _: Side, place: usize) -> Answer {
+        let [refusal, at, instructions] = peer::READER.read(place, &self.program);
+        [refusal, at, instructions, 0, 0]
+    }
+
+    fn memories(&self) -> (Vec<u8>, Vec<u16>) {
+        (Vec::new(), Vec::new())
+    }
+}
+
+/// A program listed.
+struct List {
+    program: Vec<u8>,
+    room: Vec<u8>,
+}
+
+impl Work for List {
+    fn clear(&mut self) {
+        self.room.fill(0);
+    }
+
+    fn call(&mut self, _: Side, place: usize) -> Answer {
+        let (program, room) = (&self.program, &mut self.room);
+        answer(peer::LISTER.list(place, program, room))
+    }
+
+    fn memories(&self) -> (Vec<u8>, Vec<u16>) {
+        (self.room.clone(), Vec::new())
+    }
+}
+
 /// A pack of the largest size with as many entries as there may be.
 fn full_pack() -> Vec<u8> {
     let contents = 2 + 8 * 64;
@@ -311,10 +393,26 @@ mod tests {
     }
 
     #[test]
-    fn the_shipped_rules_find_the_real_tables_good() {
+    fn the_rules_find_their_tables_good() {
         assert_eq!(steps_to_good("loca"), 152_117);
-        let steps = steps_to_good("short");
-        assert!(case("short").about.contains(&format!(" {steps} steps")));
+        for name in ["short", "short-20", "short-100"] {
+            let steps = steps_to_good(name);
+            let told = format!(" {steps} steps");
+            assert!(case(name).about.contains(&told), "{name}: {steps}");
+        }
+    }
+
+    #[test]
+    fn all_of_the_program_is_read_and_listed() {
+        let program = programs::random();
+        let [end, at, instructions, ..] = case("read").outcome(Side::Proved, 0).answer;
+        assert_eq!((end, at as usize), (1, program.len()));
+        let listing = khalixoshi::listing(&program).unwrap();
+        assert_eq!(instructions as usize, listing.lines().count());
+        assert!(!listing.contains(" byte "));
+        let listed = case("list").outcome(Side::Proved, 0);
+        assert_eq!(listed.answer[..2], [0, listing.len() as u32]);
+        assert_eq!(listed.bytes[..listing.len()], *listing.as_bytes());
     }
 
     #[test]

@@ -3,7 +3,8 @@
 use super::case::{Case, Side, Unit};
 use super::clock::{Timed, Times};
 
-/// The times of a case; of C by each of its builds.
+/// The times of a case; of C by each of its builds, of which there are none where C has no
+/// such function.
 pub struct Finding {
     name: &'static str,
     unit: Unit,
@@ -40,8 +41,9 @@ impl Finding {
     }
 
     /// The fastest C's mean by ours.
-    fn ratio(&self) -> f64 {
-        self.ratio_to(&self.c[fastest(&self.c)])
+    fn ratio(&self) -> Option<f64> {
+        let c = self.c.get(fastest(&self.c));
+        c.map(|times| self.ratio_to(times))
     }
 
     /// C's time where it is fastest, by whatever build, by our time at a place.
@@ -59,8 +61,9 @@ impl Finding {
         matches!(self.unit, Unit::Step(_))
     }
 
+    /// The reader and the listing examine instructions too, but C has neither.
     fn is_verify(&self) -> bool {
-        matches!(self.unit, Unit::Instructions(_))
+        matches!(self.unit, Unit::Instructions(_)) && !self.c.is_empty()
     }
 
     /// Our time for an instruction examined.
@@ -99,6 +102,7 @@ impl Finding {
 
     fn line(&self) -> String {
         let yardstick = fastest(&self.c);
+        let c = self.c.get(yardstick);
         row([
             self.name,
             match self.unit {
@@ -108,9 +112,9 @@ impl Finding {
                 Unit::Call => "ns/call",
             },
             &self.told_all(&self.ours),
-            &self.told_all(&self.c[yardstick]),
-            peer::BUILDS[yardstick].name,
-            &format!("{:.2}", self.ratio()),
+            &c.map_or(String::new(), |times| self.told_all(times)),
+            c.map_or("", |_| peer::BUILDS[yardstick].name),
+            &self.ratio().map_or(String::new(), |it| format!("{it:.2}")),
             &self.told_shipped(),
             &self.rounds.to_string(),
         ])
@@ -163,11 +167,13 @@ fn row_by_build(name: &str, cells: impl Iterator<Item = String>) -> String {
 
 /// The ratio by each build of the C, a line for each case. C has two verifiers: beside
 /// the one with a bitmap, which the targets speak of, one with a cursor. So it has two
-/// runs: beside the one that copies byte by byte, one that does so by memmove.
+/// runs: beside the one that copies byte by byte, one that does so by memmove. What it does
+/// not have has no line.
 pub fn by_build(findings: &[Finding]) -> String {
     let builds = peer::BUILDS.iter().map(|build| build.name);
     let head = builds.chain(["a cursor", "memmove"]).map(String::from);
-    let lines = findings.iter().map(Finding::line_by_build);
+    let with_c = findings.iter().filter(|finding| !finding.c.is_empty());
+    let lines = with_c.map(Finding::line_by_build);
     row_by_build("ratio to C by", head) + &lines.collect::<String>()
 }
 
@@ -176,14 +182,15 @@ pub fn targets(findings: &[Finding]) -> String {
     let runs: Vec<&Finding> = findings.iter().filter(|f| f.is_run()).collect();
     let verifies: Vec<&Finding> = findings.iter().filter(|f| f.is_verify()).collect();
     let mut text = String::new();
-    let mean = |finding: &Finding| Some(finding.ratio());
-    text += &least("run at least as fast as C", 1.0, &runs, mean);
-    text += &least("run 1.3 times as fast as C (aim)", 1.3, &runs, mean);
+    let as_fast = "run at least as fast as C";
+    text += &least(as_fast, 1.0, &runs, Finding::ratio);
+    let faster = "run 1.3 times as fast as C (aim)";
+    text += &least(faster, 1.3, &runs, Finding::ratio);
     let as_shipped = "run as shipped 1.3 times as fast as C where C is fastest (aim)";
     text += &least(as_shipped, 1.3, &runs, Finding::ratio_shipped);
     text += &place(&runs);
     let verify = "verify at least as fast as C with a bitmap";
-    text += &least(verify, 1.0, &verifies, mean);
+    text += &least(verify, 1.0, &verifies, Finding::ratio);
     let named = |name| verifies.iter().find(|f| f.name == name);
     for name in ["verify-hostile", "verify-branches"] {
         if let (Some(hostile), Some(straight)) = (named(name), named("verify-straight")) {
@@ -321,7 +328,7 @@ mod tests {
     fn the_build_with_the_least_mean_is_the_yardstick() {
         let mut slow_first = run("counting", 10.0, 20.0);
         slow_first.c = vec![Times([1.0, 39.0, 39.0, 41.0]), times(15.0), times(40.0)];
-        assert_eq!(slow_first.ratio(), 1.5);
+        assert_eq!(slow_first.ratio(), Some(1.5));
         let findings = [slow_first];
         let line = "counting ns/step 1.00 (0.50..1.50) 1.50 (0.75..2.25) gcc -O3 1.50 5";
         assert_eq!(words(&table(&findings)), line);
@@ -345,6 +352,18 @@ mod tests {
     fn the_faster_cursor_stands_behind_the_builds() {
         let text = by_build(&[verify("verify-random", 9, 2_000.0, 5_000.0)]);
         assert_eq!(words(&text), "verify-random 2.50 2.50 3.00");
+    }
+
+    #[test]
+    fn what_c_does_not_have_is_timed_alone() {
+        let findings = [Finding {
+            c: Vec::new(),
+            cursor: Vec::new(),
+            ..verify("read", 9, 2_000.0, 5_000.0)
+        }];
+        assert_eq!(words(&table(&findings)), "read us/call 2.0 (1.0..3.0) 5");
+        assert_eq!(by_build(&findings).lines().count(), 1);
+        assert_eq!(targets(&findings), "");
     }
 
     #[test]

@@ -104,6 +104,23 @@ pub fn copy(to: u16, from: u16) -> Vec<u8> {
     program
 }
 
+/// Whether none of so many bytes of data is over 70 hex but for its highest bit: 4 steps,
+/// and 4 for each byte. The last byte is looked at first, as the shipped rules do.
+pub fn looks(bytes: u8) -> Vec<u8> {
+    let bad = 3 + 8 * bytes + 2;
+    let mut program = vec![0x33, bytes - 1, 0x01]; // ld-u8 of the last byte, discard
+    for at in 0..bytes {
+        program.extend([
+            0x33, at, // ld-u8
+            0x2B, 0x7F, // and $7F
+            0x28, 0x70, // gt $70
+            0x3D, bad, // jump-if
+        ]);
+    }
+    program.extend([0x81, 0x00, 0x80, 0x00]); // push-u8 1, halt; bad: push-u8 0, halt
+    program
+}
+
 /// Every form of push-values ten times over, 980 values, and a halt.
 pub fn pushes() -> Vec<u8> {
     let mut program = Vec::new();
@@ -264,7 +281,14 @@ mod tests {
 
     #[test]
     fn every_program_may_run() {
-        for program in [counting(), alu(), byte_scan(), pushes()] {
+        for program in [
+            counting(),
+            alu(),
+            byte_scan(),
+            looks(4),
+            looks(24),
+            pushes(),
+        ] {
             let mut map = vec![0; program.len()];
             assert_eq!(verify(&program, CELLS_MAX, &mut map), Ok(()));
         }

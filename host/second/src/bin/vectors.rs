@@ -2,7 +2,7 @@
 //! implementation's answers, or checks that they are as they would be written:
 //!
 //! ```text
-//! vectors isa DIR            the decoder and the encoder
+//! vectors isa DIR            the decoder, the encoder and the table of first bytes
 //! vectors machine DIR        the run
 //! vectors verify DIR         the verifier
 //! vectors pack DIR           packs

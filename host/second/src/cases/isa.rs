@@ -1,4 +1,4 @@
-//! Cases of the decoder and the encoder.
+//! Cases of the decoder, the encoder and the table of first bytes.
 //!
 //! Numbers have their low byte first. A case is one of:
 //!
@@ -6,11 +6,13 @@
 //!   program's bytes. Answered as `decode`.
 //! - `E` (45 hex): code u8, number u16, count u8, flags u8, four values u16
 //!   each, the room's length as u16, the room's bytes. Answered as `encode`.
+//! - `S` (53 hex): a first byte. Answered as `shape`.
 
 use super::{counts_and_flags, whole, Varied, Vectors, EDGES};
 use crate::instruction::{decode, encode, Instruction};
 use crate::numbers::PROGRAM_BYTES;
-use crate::protocol::{decode_answer, room_answer};
+use crate::protocol::{decode_answer, room_answer, shape_answer};
+use crate::shape::shape;
 
 /// All cases, in order.
 pub fn vectors() -> Vectors {
@@ -28,6 +30,7 @@ pub fn vectors() -> Vectors {
     encode_values(&mut vectors);
     encode_rooms(&mut vectors);
     encode_varied(&mut vectors);
+    shapes(&mut vectors);
     vectors
 }
 
@@ -344,6 +347,13 @@ fn encode_varied(vectors: &mut Vectors) {
     }
 }
 
+/// The whole table.
+fn shapes(vectors: &mut Vectors) {
+    for first in 0..=255 {
+        vectors.add(&[b'S', first], &shape_answer(&shape(first)));
+    }
+}
+
 #[cfg(test)]
 mod tests {
     use super::*;
@@ -354,7 +364,9 @@ mod tests {
         assert!(vectors.stdin.len() < 160_000);
         assert!(vectors.cases() < 12_000);
         let (ok, refused) = (vectors.answers("ok "), vectors.answers("refused "));
-        assert_eq!(ok + refused, vectors.cases());
+        let (rows, illegal) = (vectors.answers("row "), vectors.answers("illegal"));
+        assert_eq!(rows + illegal, 256);
+        assert_eq!(ok + refused + rows + illegal, vectors.cases());
         assert!(ok.abs_diff(refused) < vectors.cases() / 10);
     }
 
@@ -369,7 +381,7 @@ mod tests {
         assert!(vectors.answers("refused 26 ") > 0);
     }
 
-    /// The first two cases, by hand.
+    /// The first two cases, and the last, by hand.
     #[test]
     fn the_form_of_a_case() {
         let vectors = vectors();
@@ -379,5 +391,7 @@ mod tests {
             .stdin
             .starts_with(&[&halt_alone[..], &halt_and_more].concat()));
         assert!(vectors.stdout.starts_with("ok 1 0 0 0 0 0 0 0 0\nok 1 0"));
+        assert!(vectors.stdin.ends_with(&[0x53, 0xFF]));
+        assert!(vectors.stdout.ends_with("\nrow 9 0 4\n"));
     }
 }

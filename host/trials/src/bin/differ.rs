@@ -22,7 +22,8 @@ library's answers.
 
   --plant ERROR  the second implementation with a planted error: sum, one kind of load
                  adds its operands modulo 65,536; copy, dcopy reads bytes that it has
-                 written
+                 written; shape, the row of call-imm8 has its values taken and pushed
+                 exchanged
   --print        prints the cases and asks nobody, for `khx conform`
 
 Exit status: 0 no difference, 1 a difference, 2 bad usage.

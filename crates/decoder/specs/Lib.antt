@@ -1,0 +1,3 @@
+-- The definitions of `decoder`.
+pub mod Decode
+pub mod Refusals
