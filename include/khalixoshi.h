@@ -161,7 +161,7 @@ khx_written khx_encode(khx_instruction instruction, uint8_t *room, size_t room_l
 
 /*
  * One row of the table of all 256 first bytes: an instruction's length and what it does to the depth, told by its first byte
- * alone. A shift's second byte is not in it: over 15, khx_decode refuses 31 and 32 by 2 as well. Refusal: 2.
+ * alone. A shift's second byte is not in it: where that is over 15, khx_decode refuses the codes 31 and 32 (hex) by 2 as well. Refusal: 2.
  */
 khx_row khx_shape(uint8_t first);
 

@@ -11,6 +11,8 @@ other counts. In all of them the statement is well formed and the proof does not
   statement  what the proof shows is another statement than the one asked: two equations or inequalities (or two of them, joined alike),
              or two statements that first differ in a value, or so late that only their beginning is printed, or of which one is what a
              function ensures and computes to the same relation as the other
+  computed   what the function ensures is to hold by computing both sides, and it does not: the proof is reflexivity, and what the sides
+             compute to is too long to be printed
   no file    no error is left, a function has no proof file, and the prover's own search does not close the fact that the log names, such
              as that what the function ensures holds when it returns; every other function that is not proved calls it
 So a name that is not found, a term of another type (a state where a list is expected), an invariant or a measure that no longer fits
@@ -43,6 +45,9 @@ REWRITTEN = re.compile(r"`(rw|simp)` has no last argument, so what it leaves mus
 UNREACHED = re.compile(r"`(rw|simp)`: no equation of the list has an instance in the goal `(?:\S+\.)?(?:Reads\.Post|Path|_≡_) ")
 ABSENT = re.compile(r"`(rw)`: no occurrence of the path's left endpoint in the goal: .*Looked for `[^`]*` in the goal `(?P<goal>[^`]*)`", re.DOTALL)
 PLAIN = re.compile(rf"expected type {QUOTED.format('one')},?\s+but this has type {QUOTED.format('other')}")
+COMPUTED = re.compile(
+    rf"expected type `{ENSURED} [^`]*`\s+but this has type {QUOTED.format('found')}\s+"
+    r"what the two types compute to is not shown, because one could not be computed \(expected: computing it took more than \d+ steps\)")
 CC = re.compile(r"`cc`: the equations do not join `")
 SEARCH = re.compile(r"`search`: no proof of `[^`]*`\s*was found")
 SHIFTED = re.compile(r"expected type `tie\.Need-[^`]*`, but this has type `tie\.Need-[^`]*`")
@@ -125,6 +130,9 @@ def form_of(declaration, said):
         return "cc"
     if SEARCH.match(said):
         return "search"
+    if COMPUTED.match(said):
+        words = parts(COMPUTED.match(said).group("found"))
+        return "computed" if len(words) == 3 and words[0].split(".")[-1] == "_≡_" and words[1] == words[2] else None
     if LATE.search(said):
         return "statement"
     if ARE.search(said):

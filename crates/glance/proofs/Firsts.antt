@@ -262,33 +262,33 @@ pub not-turning : (t : Bool) → not t ≡ true → t ≡ false
 not-turning true e = absurd (false-true e)
 not-turning false e = refl
 
--- what the code makes of a program's instruction at the address a
-module _ (program : List ℕ) (a : ℕ) (found : Found) where
+-- what the code makes of a program's instruction at the address a, which begins with c, and what it then answers
+module _ (program : List ℕ) (a : ℕ) (found : Found) (c : ℕ) (o : Outcome) where
   -- it leads by its number, which is any of its width
-  pub on-number : Bytes program → (b width : ℕ) (to : ℕ → Way) → Leads b width to → (x : ℕ) → x ≡ numberAt width program (a + 1)
-      → onWay (found .next) (to x) (afterOf found) ≡ firstOn program a b found
+  pub on-number : Bytes program → (b width : ℕ) (to : ℕ → Way) → Leads b width to → c ≡ b → (x : ℕ) → x ≡ numberAt width program (a + 1)
+      → o ≡ onWay (found .next) (to x) (afterOf found) → o ≡ firstOn program a c found
   unfolding firstOn
-  on-number bytes b width to e x q =
+  on-number bytes b width to e k x q r =
       let z = e .number (drop a program) in
       let m : numberAt width (drop a program) 1 < 256 ^ width = number-lt width (drop a program) 1 (bytes-drop a program bytes) in
-      rw (z, e .limit, lt-ltb _ _ m, e .way (numberAt width (drop a program) 1), number-drop width a 1 program, ← q)
+      rw (k, z, e .limit, lt-ltb _ _ m, e .way (numberAt width (drop a program) 1), number-drop width a 1 program, ← q) r
 
   -- it is a shift
-  pub on-shift : (b : ℕ) → Shifts b
-      → pick (ltb (getD program (a + 1) 0) 16) (onWay (found .next) Next (afterOf found)) (bad 2) ≡ firstOn program a b found
+  pub on-shift : (b : ℕ) → Shifts b → c ≡ b
+      → o ≡ pick (ltb (getD program (a + 1) 0) 16) (onWay (found .next) Next (afterOf found)) (bad 2) → o ≡ firstOn program a c found
   unfolding firstOn
-  on-shift b e =
+  on-shift b e k r =
       let n : numberAt 1 (drop a program) 1 ≡ getD program (a + 1) 0 = number-drop 1 a 1 program ∙ omega arith in
-      rw (e .form, n, e .way (getD program (a + 1) 0))
+      rw (k, e .form, n, e .way (getD program (a + 1) 0)) r
 
   -- it goes on
-  pub on-next : Bytes program → (b : ℕ) → b < 256 → 0 < lengthOf b → turning b ≡ false → onWay (found .next) Next (afterOf found) ≡ firstOn program a b found
+  pub on-next : Bytes program → c < 256 → 0 < lengthOf c → turning c ≡ false → o ≡ onWay (found .next) Next (afterOf found) → o ≡ firstOn program a c found
   unfolding firstOn lengthOf
-  on-next bytes b h l t =
-      let f = formOf (codeOf b) in
+  on-next bytes h l t r =
+      let f = formOf (codeOf c) in
       let x = numberIn f (drop a program) in
-      let o = others b x h t in
-      let w = next-way (wayIn (codeOf b) x) (both-left (isNext (wayIn (codeOf b) x)) (notShift f) o) in
-      let g = legal f b (λ z. omega arith) in
-      let k = below f (drop a program) (bytes-drop a program bytes) (both-right (isNext (wayIn (codeOf b) x)) (notShift f) o) (g .limit) in
-      rw (lt-ltb x (limitIn f) k, w)
+      let u = others c x h t in
+      let w = next-way (wayIn (codeOf c) x) (both-left (isNext (wayIn (codeOf c) x)) (notShift f) u) in
+      let g = legal f c (λ z. omega arith) in
+      let k = below f (drop a program) (bytes-drop a program bytes) (both-right (isNext (wayIn (codeOf c) x)) (notShift f) u) (g .limit) in
+      rw (lt-ltb x (limitIn f) k, w) r

@@ -44,18 +44,18 @@ IllegalsApart =
 -- is no part
 unfoldable pub ByHand : Type 0
 ByHand =
-    -- halt, discard, dcopy, swap
-    (shapeOf 0x00 ≡ Row 1 0 0) × (shapeOf 0x01 ≡ Row 1 1 0) × (shapeOf 0x02 ≡ Row 1 3 1) × (shapeOf 0x04 ≡ Row 1 2 2)
-    -- call, jump, jump-if, extcall; add, shr, inc
-    × (shapeOf 0x05 ≡ Row 1 1 1) × (shapeOf 0x06 ≡ Row 1 1 0) × (shapeOf 0x07 ≡ Row 1 2 0) × (shapeOf 0x0A ≡ Row 1 1 0)
-    × (shapeOf 0x14 ≡ Row 1 2 1) × (shapeOf 0x18 ≡ Row 1 2 1) × (shapeOf 0x19 ≡ Row 1 1 1)
+    -- halt, discard, dcopy, pcopy, swap
+    (shapeOf 0x00 ≡ Row 1 0 0) × (shapeOf 0x01 ≡ Row 1 1 0) × (shapeOf 0x02 ≡ Row 1 3 1) × (shapeOf 0x03 ≡ Row 1 3 1) × (shapeOf 0x04 ≡ Row 1 2 2)
+    -- call, jump, jump-if, syscall, extcall; eq, add, shr, inc
+    × (shapeOf 0x05 ≡ Row 1 1 1) × (shapeOf 0x06 ≡ Row 1 1 0) × (shapeOf 0x07 ≡ Row 1 2 0) × (shapeOf 0x09 ≡ Row 1 1 0) × (shapeOf 0x0A ≡ Row 1 1 0)
+    × (shapeOf 0x0B ≡ Row 1 2 1) × (shapeOf 0x14 ≡ Row 1 2 1) × (shapeOf 0x18 ≡ Row 1 2 1) × (shapeOf 0x19 ≡ Row 1 1 1)
     -- loads and stores at a, at a+b
     × (shapeOf 0x1D ≡ Row 1 1 1) × (shapeOf 0x20 ≡ Row 1 2 1) × (shapeOf 0x21 ≡ Row 1 2 1) × (shapeOf 0x24 ≡ Row 1 3 1)
-    -- with a number of one byte: eq, shr, loads, stores, call, jump, jump-if-not, extcall
+    -- with a number of one byte: eq, shr, loads, stores, call, jump, jump-if-not, syscall, extcall
     × (shapeOf 0x25 ≡ Row 2 1 1) × (shapeOf 0x32 ≡ Row 2 1 1) × (shapeOf 0x33 ≡ Row 2 0 1) × (shapeOf 0x36 ≡ Row 2 1 1) × (shapeOf 0x37 ≡ Row 2 1 1)
-    × (shapeOf 0x3A ≡ Row 2 2 1) × (shapeOf 0x3B ≡ Row 2 0 1) × (shapeOf 0x3C ≡ Row 2 0 0) × (shapeOf 0x3E ≡ Row 2 1 0) × (shapeOf 0x40 ≡ Row 2 0 0)
-    -- with a number of two bytes: eq, load, store, call, extcall
-    × (shapeOf 0x41 ≡ Row 3 1 1) × (shapeOf 0x4D ≡ Row 3 0 1) × (shapeOf 0x54 ≡ Row 3 2 1) × (shapeOf 0x55 ≡ Row 3 0 1) × (shapeOf 0x5A ≡ Row 3 0 0)
+    × (shapeOf 0x3A ≡ Row 2 2 1) × (shapeOf 0x3B ≡ Row 2 0 1) × (shapeOf 0x3C ≡ Row 2 0 0) × (shapeOf 0x3E ≡ Row 2 1 0) × (shapeOf 0x3F ≡ Row 2 0 0) × (shapeOf 0x40 ≡ Row 2 0 0)
+    -- with a number of two bytes: eq, load, store, call, syscall, extcall
+    × (shapeOf 0x41 ≡ Row 3 1 1) × (shapeOf 0x4D ≡ Row 3 0 1) × (shapeOf 0x54 ≡ Row 3 2 1) × (shapeOf 0x55 ≡ Row 3 0 1) × (shapeOf 0x59 ≡ Row 3 0 0) × (shapeOf 0x5A ≡ Row 3 0 0)
     -- pushes: of six bits; of one value, of two with the second wide, of four all wide
     × (shapeOf 0x80 ≡ Row 1 0 1) × (shapeOf 0xC0 ≡ Row 2 0 1) × (shapeOf 0xC9 ≡ Row 4 0 2) × (shapeOf 0xFF ≡ Row 9 0 4)
 

@@ -106,8 +106,8 @@ pub struct Shape {
 }
 
 /// One row of the table of all 256 first bytes; none where no instruction begins with
-/// the byte. A shift's second byte is not in it: over 15, [`decode`] refuses 31 and 32 by
-/// 2 as well.
+/// the byte. A shift's second byte is not in it: where that is over 15, [`decode`] refuses
+/// the shifts 0x31 and 0x32 too, by [`Error::Illegal`].
 ///
 /// ```
 /// use khalixoshi::{shape, Shape};

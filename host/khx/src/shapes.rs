@@ -29,7 +29,8 @@ const PAGE: &str = "\
 # Instruction shapes
 
 What the first byte of an instruction says of it: its length in bytes, how many values it takes from the stack, and how many it pushes.
-With an illegal byte no instruction begins. A shift's second byte is not in the table: over 15, it makes 31 and 32 illegal too.
+First bytes are in hex. No instruction begins with an illegal byte: decoder and verifier refuse it by 2, and a run that comes to it faults by 2.
+A shift's second byte is not in the table: where it is over 15, the shifts 31 and 32 are refused so too.
 What each instruction does is in [GUIDE.md](GUIDE.md). `khx shapes` prints this page from the proved table, and tools/shapes writes it here.
 
 ";

@@ -55,7 +55,7 @@ returns-2 c =
     let l = w .long in
     let s = w .some in
     let t = not-turning (turning (getD (c .before .before .before .before .before .before .before .before .before .before .before .args .program .now) (c .before .before .before .before .before .before .before .before .before .before .before .args .at) 0)) (sym (c .before .before .follows .ensures) ∙ c .before .if2 .taken) in
-    c .led .ensures ∙ on-next (c .before .before .before .before .before .before .before .before .before .before .before .args .program .now) _ _ (λ j. omega (arith, c .before .before .before .before .before .before .before .before .before .shared-slice-known2 .given j)) _ (omega (arith, c .before .before .before .before .before .before .before .before .before .shared-slice-known2 .given (c .before .before .before .before .before .before .before .before .before .before .before .args .at))) (omega arith) t
+    on-next (c .before .before .before .before .before .before .before .before .before .before .before .args .program .now) _ _ _ _ (λ j. omega (arith, c .before .before .before .before .before .before .before .before .before .shared-slice-known2 .given j)) (omega (arith, c .before .before .before .before .before .before .before .before .before .shared-slice-known2 .given (c .before .before .before .before .before .before .before .before .before .before .before .args .at))) (omega arith) t (c .led .ensures)
     ∙ look-led _ _ _ _ (c .before .before .before .before .before .before .before .before .before .before .before .pre .1) (c .before .before .before .before .before .before .before .before .before .before .before .pre .2) _ _ _ w (omega arith)
 
 returns-3 : tie.Need-returns-3
