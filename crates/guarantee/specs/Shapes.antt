@@ -40,8 +40,8 @@ IllegalsApart =
     × (shapeOf b ≡ Illegal → (program : List ℕ) (a : ℕ) → Inside program a b → decodeOf program a ≡ refused 2)
     × ((shapeOf b ≡ Illegal → ⊥) → (r : Reading) × (decodeOf (b ∷ replicate 8 0) 0 ≡ given r))
 
--- rows worked by hand, one of each family: length, taken, pushed; a call pushes its return address, and of a function's row the function itself
--- is no part
+-- rows worked by hand, one of each family at least: length, taken, pushed; a call pushes its return address, and what a function itself would
+-- take or push is no part of its code's row
 unfoldable pub ByHand : Type 0
 ByHand =
     -- halt, discard, dcopy, pcopy, swap
