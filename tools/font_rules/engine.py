@@ -1,5 +1,6 @@
 """An engine that answers the conformance protocol (docs/CONFORMANCE.md), asked one case after the other: which bytes a rule is lent
 next follows from its last answer. So the engine must answer a line before it waits for another."""
+import contextlib
 import subprocess
 from typing import NamedTuple
 
@@ -27,14 +28,16 @@ class Engine:
         return self
 
     def __exit__(self, *_):
-        self.process.stdin.close()
+        with contextlib.suppress(BrokenPipeError):      # what was not sent to an engine that ended
+            self.process.stdin.close()
         self.process.stdout.close()
         self.process.wait()
 
     def answer(self, case):
-        """The answer to a case: one line for one line."""
-        self.process.stdin.write(case + b"\n")
-        self.process.stdin.flush()
+        """The answer to a case: one line for one line. An engine may end before it is sent the case, or before it answers it."""
+        with contextlib.suppress(BrokenPipeError):
+            self.process.stdin.write(case + b"\n")
+            self.process.stdin.flush()
         answer = self.process.stdout.readline()
         if not answer.endswith(b"\n"):
             raise ValueError(f"the engine ended with exit status {self.process.wait()}")

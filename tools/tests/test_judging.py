@@ -90,11 +90,18 @@ class Answers(unittest.TestCase):
             with self.assertRaises(ValueError):
                 engine.ran(answer)
 
-    def test_an_engine_that_ends(self):
-        with engine.Engine([sys.executable, "-c", "print(input()); raise SystemExit(3)"]) as ending:
+    def ends(self, program, meanwhile):
+        with engine.Engine([sys.executable, "-c", program]) as ending:
             self.assertEqual(ending.answer(b"# one"), b"# one")
+            meanwhile(ending.process)
             with self.assertRaisesRegex(ValueError, "exit status 3"):
                 ending.answer(b"# two")
+
+    def test_an_engine_that_ends_before_a_case(self):
+        self.ends("print(input()); raise SystemExit(3)", lambda process: process.wait())
+
+    def test_an_engine_that_ends_at_a_case(self):
+        self.ends("print(input(), flush=True); input(); raise SystemExit(3)", lambda process: None)
 
 
 if __name__ == "__main__":
