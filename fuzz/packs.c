@@ -7,7 +7,7 @@
 #include "tries.h"
 
 /* What the lists of the harness hold: more entries and longer bodies than a pack may have. */
-enum { ENTRIES_HELD = 96, BODIES_HELD = 1 << 16, HEAD = 2, FIELDS = 8 };
+enum { ENTRIES_HELD = 96, BODIES_HELD = 1 << 16 };
 
 typedef struct lists {
     size_t count;
@@ -79,7 +79,7 @@ static bool refuses_pack(size_t refusal)
     return refusal >= KHX_PACK_CONTENTS && refusal <= KHX_PACK_ENTRY;
 }
 
-static khx_checked check(const lent *pack)
+khx_checked check_pack(const lent *pack)
 {
     khx_checked checked = khx_pack_check(pack->bytes, pack->size);
     promise_kept(pack);
@@ -96,13 +96,13 @@ static khx_entry entry_at(const lent *pack, size_t index)
     return entry;
 }
 
-static bool same_entry(khx_entry one, khx_entry other)
+bool same_entry(khx_entry one, khx_entry other)
 {
     return one.refusal == other.refusal && one.present == other.present && one.tag == other.tag && one.cells == other.cells &&
            one.offset == other.offset && one.length == other.length;
 }
 
-static void promise_no_entry(khx_entry entry, size_t refusal)
+void promise_no_entry(khx_entry entry, size_t refusal)
 {
     const khx_entry none = {refusal, 0, 0, 0, 0, 0};
     promise(same_entry(entry, none), "where there is no entry all is 0 but the refusal, which is the pack's own or 36");
@@ -148,7 +148,7 @@ static void promise_writes_back(input *from, const lent *pack)
 void try_pack_check(input *from)
 {
     lent pack = take_pack(from);
-    khx_checked checked = check(&pack);
+    khx_checked checked = check_pack(&pack);
     notice(CHECKED, checked.refusal);
     if (checked.refusal != 0)
         return;
@@ -163,7 +163,7 @@ void try_pack_entry(input *from)
     size_t index = take_number(from);
     lent pack = take_pack(from);
     khx_entry entry = entry_at(&pack, index);
-    khx_checked checked = check(&pack);
+    khx_checked checked = check_pack(&pack);
     notice(ENTERED, entry.refusal + entry.present);
     if (checked.refusal == 0 && index < checked.entries)
         promise_entry(entry, &pack, checked.entries);
@@ -198,7 +198,7 @@ void try_pack_find(input *from)
 {
     uint16_t tag = take_u16(from);
     lent pack = take_pack(from);
-    khx_checked checked = check(&pack);
+    khx_checked checked = check_pack(&pack);
     promise_found(&pack, checked, tag);
     for (size_t i = 0; i < checked.entries; i++)
         promise_found(&pack, checked, entry_at(&pack, i).tag);
@@ -239,7 +239,7 @@ static khx_written write(const lent_lists *all, const lent *room)
 
 static void promise_holds(const lent *pack)
 {
-    khx_checked checked = check(pack);
+    khx_checked checked = check_pack(pack);
     promise(checked.refusal == 0 && checked.entries == held.count, "a pack that was written is good and has all entries");
     for (size_t i = 0; i < held.count; i++) {
         khx_entry entry = entry_at(pack, i);

@@ -1,10 +1,22 @@
-/* Packs from the input, for the trials of packs and of the report. */
+/* Packs from the input, and what is said of them, for the trials of packs, of the lookup and of the report. */
 #ifndef FUZZ_PACKS_H
 #define FUZZ_PACKS_H
 
+#include "khalixoshi.h"
 #include "lent.h"
+
+/* Bytes of the count, with which a pack begins, and of an entry. */
+enum { HEAD = 2, FIELDS = 8 };
 
 /* Any bytes, or a pack written from lists, or such a pack with a byte changed. */
 lent take_pack(input *from);
+
+/* What the check says, which writes nothing. */
+khx_checked check_pack(const lent *pack);
+
+bool same_entry(khx_entry one, khx_entry other);
+
+/* The promise that an answer has no entry, and this refusal. */
+void promise_no_entry(khx_entry entry, size_t refusal);
 
 #endif

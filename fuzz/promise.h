@@ -26,6 +26,7 @@ typedef enum kind {
     ENTRIES,
     ENTERED,
     FOUND,
+    LOOKED_UP,
     WRITTEN,
     REPORTED,
     KINDS

@@ -9,7 +9,7 @@
 #include <stdlib.h>
 #include <string.h>
 
-enum { FILES_MAX = 64, LENGTH_MAX = 1024 };
+enum { FILES_MAX = 128, LENGTH_MAX = 1024 };
 
 typedef struct seed {
     size_t length;

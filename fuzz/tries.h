@@ -15,6 +15,7 @@ void try_list(input *from);
 void try_pack_check(input *from);
 void try_pack_entry(input *from);
 void try_pack_find(input *from);
+void try_pack_lookup(input *from);
 void try_pack_write(input *from);
 void try_report(input *from);
 

@@ -1,6 +1,7 @@
 /*
  * Khalixoshi: the proved rule engine of a font sanitiser. Link with libkhalixoshi.a (x86-64 Linux); of the C library it
- * needs memcpy and memset alone. It has no heap and no state of its own: calls on different memories may run at the same time.
+ * needs memcpy and memset alone. It has no heap and no state of its own: calls may run at the same time
+ * that share nothing but what all of them only read.
  *
  * What a caller owes, since C cannot say it: each pointer is aligned and leads to as many elements as the count after it
  * says, `at` of khx_read to one (where the count is 0 it is not followed and may be NULL), and what a function may write
@@ -140,7 +141,10 @@ typedef struct khx_checked {
     size_t entries;
 } khx_checked;
 
-/* An entry of a good pack where `present` is 1: its body is the `length` bytes of the pack from `offset`, all inside it. */
+/*
+ * An entry where `present` is 1: its body is the `length` bytes of the pack from `offset`, all inside it. It is one of a good pack,
+ * but where khx_pack_lookup gives it of bytes that were not checked.
+ */
 typedef struct khx_entry {
     size_t refusal;
     size_t present;
@@ -209,8 +213,20 @@ khx_checked khx_pack_check(const uint8_t *pack, size_t pack_length);
 /* The entry at an index, the first being 0; past the last `present` is 0 and `refusal` too. Refusals: as khx_pack_check. */
 khx_entry khx_pack_entry(const uint8_t *pack, size_t pack_length, size_t index);
 
-/* The entry with a tag. Refusals: as khx_pack_check, then 36. */
+/* The entry with a tag, of any bytes: the whole pack is checked at each call. Refusals: as khx_pack_check, then 36. */
 khx_entry khx_pack_find(const uint8_t *pack, size_t pack_length, uint16_t tag);
+
+/*
+ * The entry with a tag, of a pack that khx_pack_check accepted once and that has not changed since: what khx_pack_find answers,
+ * found by halving, in at most 7 comparisons of tags, and the pack is not checked again. Of such a pack the one refusal is 36. For any other
+ * bytes there is khx_pack_find.
+ *
+ * Of any other bytes this holds: none outside them is read, and an entry that is given has the tag asked for, at most
+ * KHX_CELLS_MAX cells, at most KHX_PROGRAM_MAX bytes, and offset + length at most pack_length. No more: the bytes may be no pack
+ * where an entry is given, and may have the tag where 36 is. So these refusals do not stand in for the check. Refusals: 31 and 30
+ * as khx_pack_check, 36, then of the entry with the tag 35, and 34 where its body ends past the pack's end.
+ */
+khx_entry khx_pack_lookup(const uint8_t *pack, size_t pack_length, uint16_t tag);
 
 /*
  * Writes a pack from the tags, cells and lengths of its entries and their bodies end to end. The three lists have the same

@@ -1,12 +1,13 @@
 /*
- * A font table judged by a rule of a pack, by the convention of examples/README.md: the rule is found and verified, the 64 bytes are
- * laid out before the table's, the rule is run, lent what it asks for, and its verdict is read. Whatever goes wrong on the way, the table is
- * not good.
+ * Font tables judged by the rules of a pack, by the convention of examples/README.md. The pack is checked once; for each table its rule is
+ * looked up and verified, the 64 bytes are laid out before the table's, the rule is run, lent what it asks for, and its verdict is read.
+ * Whatever goes wrong on the way, the table is not good.
  *
- * usage: judge PACK TAG TABLE [GLYPHS METRICS LOCA_FORMAT OUTLINES]
+ * usage: judge PACK TAG TABLE [GLYPHS METRICS LOCA_FORMAT OUTLINES] [-- TAG TABLE ..]..
  *
- * TABLE is a file with the table's bytes as they stand in the font; the numbers are decimal, and those left out are 0. Prints the verdict.
- * Exit status: 0 for good alone, 1 for refused and no verdict, 2 for bad usage or a file that cannot be read.
+ * TABLE is a file with the table's bytes as they stand in the font; the numbers are decimal, and those left out are 0. Behind each -- stands
+ * another table. Prints a verdict for each, in turn.
+ * Exit status: 0 where all are good, 1 where one is refused or has no verdict, 2 for bad usage or a file that cannot be read.
  */
 #include "khalixoshi.h"
 
@@ -30,6 +31,14 @@
 #define AT_TABLE 64
 #define PIECE 65468u
 #define BUDGET 20000000u
+
+/* A pack in memory, checked once: as long as its bytes stay as they are, rules are looked up in it without another check. All 0 is none. */
+typedef struct rules {
+    const uint8_t *pack;
+    size_t length;
+    int good;       /* 1 where the check took it */
+    size_t refusal; /* else what it was refused by */
+} rules;
 
 /* The table, and what the host knows of its font: a fact is 0 where the font has no such table. */
 typedef struct subject {
@@ -136,37 +145,52 @@ static verdict run(const uint8_t *rule, size_t rule_length, size_t cells_length,
     }
 }
 
+static rules check(const uint8_t *pack, size_t length)
+{
+    khx_checked said = khx_pack_check(pack, length);
+    rules checked = {pack, length, said.refusal == 0, said.refusal};
+    return checked;
+}
+
+/* The rule with a tag: looked up in a good pack, and in no other. */
+static khx_entry look_up(const rules *in, uint16_t tag)
+{
+    size_t refusal = in->refusal != 0 ? in->refusal : (size_t)KHX_PACK_CONTENTS;
+    khx_entry none = {refusal, 0, 0, 0, 0, 0};
+    return in->good ? khx_pack_lookup(in->pack, in->length, tag) : none;
+}
+
 /* The verdict of the rule with a tag on a table. */
-static verdict judge(const uint8_t *pack, size_t pack_length, uint16_t tag, const subject *of)
+static verdict judge(const rules *by, uint16_t tag, const subject *of)
 {
     static uint16_t map[KHX_PROGRAM_MAX];
-    khx_entry rule = khx_pack_find(pack, pack_length, tag);
+    khx_entry rule = look_up(by, tag);
     if (rule.refusal == KHX_PACK_ABSENT)
         return no_verdict("no rule has the tag %u", (unsigned)tag);
-    if (rule.refusal != 0)
+    if (!rule.present)
         return no_verdict("the pack is refused by %zu", rule.refusal);
-    khx_verdict safe = khx_verify(pack + rule.offset, rule.length, rule.cells, map, rule.length);
+    const uint8_t *program = by->pack + rule.offset;
+    khx_verdict safe = khx_verify(program, rule.length, rule.cells, map, rule.length);
     if (safe.refusal > KHX_TWO_DEPTHS)
         return no_verdict("the rule is refused by %zu", safe.refusal);
     if (safe.refusal != 0)
         return no_verdict("the rule is refused by %zu at %04zX", safe.refusal, safe.at);
     if (of->length > UINT32_MAX)
         return no_verdict("the table is over 4,294,967,295 bytes");
-    return run(pack + rule.offset, rule.length, rule.cells, of);
+    return run(program, rule.length, rule.cells, of);
 }
 
+/* Prints a verdict and gives its exit status: good counts only where it was told. */
 static int print(const verdict *says)
 {
-    switch (says->is) {
-    case GOOD:
-        return puts("good") < 0 || fflush(stdout) != 0 ? 2 : 0;
-    case REFUSED:
+    if (says->is == GOOD)
+        puts("good");
+    else if (says->is == REFUSED)
         printf("refused %u\n", says->reason);
-        return 1;
-    default:
+    else
         printf("no verdict: %s\n", says->why);
-        return 1;
-    }
+    int told = fflush(stdout) == 0 && !ferror(stdout);
+    return says->is != GOOD ? 1 : told ? 0 : 2;
 }
 
 static void fail(const char *what, const char *of)
@@ -207,23 +231,54 @@ static uint32_t number(const char *word, unsigned long most)
     return (uint32_t)value;
 }
 
-int main(int count, char **words)
+static void fail_usage(void)
 {
-    if (count != 4 && count != 8)
-        fail("usage: judge PACK TAG TABLE [GLYPHS METRICS LOCA_FORMAT OUTLINES]", "");
-    size_t pack_length, table_length;
-    uint8_t *pack = contents(words[1], &pack_length);
-    uint16_t tag = (uint16_t)number(words[2], UINT16_MAX);
-    uint8_t *table = contents(words[3], &table_length);
-    subject of = {table, table_length, 0, 0, 0, 0};
-    if (count == 8) {
-        of.glyphs = (uint16_t)number(words[4], UINT16_MAX);
-        of.metrics = (uint16_t)number(words[5], UINT16_MAX);
-        of.loca_format = (uint16_t)number(words[6], UINT16_MAX);
-        of.outlines = number(words[7], UINT32_MAX);
+    fail("usage: judge PACK TAG TABLE [GLYPHS METRICS LOCA_FORMAT OUTLINES] [-- TAG TABLE ..]..", "");
+}
+
+/* Judges the table that a group of words tells of, and prints the verdict: its exit status. */
+static int judge_one(const rules *by, int count, char **words)
+{
+    if (count != 2 && count != 6)
+        fail_usage();
+    size_t length;
+    uint16_t tag = (uint16_t)number(words[0], UINT16_MAX);
+    uint8_t *table = contents(words[1], &length);
+    subject of = {table, length, 0, 0, 0, 0};
+    if (count == 6) {
+        of.glyphs = (uint16_t)number(words[2], UINT16_MAX);
+        of.metrics = (uint16_t)number(words[3], UINT16_MAX);
+        of.loca_format = (uint16_t)number(words[4], UINT16_MAX);
+        of.outlines = number(words[5], UINT32_MAX);
     }
-    verdict says = judge(pack, pack_length, tag, &of);
-    free(pack);
+    verdict says = judge(by, tag, &of);
     free(table);
     return print(&says);
+}
+
+/* How many words there are before the next --, or the last. */
+static int group(int count, char **words)
+{
+    int length = 0;
+    while (length < count && strcmp(words[length], "--") != 0)
+        length++;
+    return length;
+}
+
+int main(int count, char **words)
+{
+    if (count < 2)
+        fail_usage();
+    size_t length;
+    uint8_t *pack = contents(words[1], &length);
+    rules by = check(pack, length);
+    int worst = 0;
+    for (int at = 2; at <= count;) { /* behind a -- at the end there is a group of no words, which is bad usage */
+        int taken = group(count - at, words + at);
+        int status = judge_one(&by, taken, words + at);
+        worst = status > worst ? status : worst;
+        at += taken + 1;
+    }
+    free(pack);
+    return worst;
 }

@@ -1,4 +1,4 @@
-/* Rules through the C face: three are written into a pack, reported on, found by their tags, listed, verified and run. */
+/* Rules through the C face: three are written into a pack, which is checked once; then each is looked up by its tag, listed, verified and run. */
 #include "khalixoshi.h"
 
 #include <stdio.h>
@@ -103,9 +103,10 @@ static size_t write_pack(uint8_t *room, size_t room_length)
     return written.length;
 }
 
+/* The pack was checked, and is as it was. */
 static void judge(const uint8_t *pack, size_t pack_length, uint16_t tag)
 {
-    khx_entry entry = khx_pack_find(pack, pack_length, tag);
+    khx_entry entry = khx_pack_lookup(pack, pack_length, tag);
     printf("tag %u: ", (unsigned)tag);
     if (entry.refusal != 0) {
         printf("refusal %zu\n", entry.refusal);
@@ -117,13 +118,25 @@ static void judge(const uint8_t *pack, size_t pack_length, uint16_t tag)
         run(pack + entry.offset, entry.length);
 }
 
-static void walk_entries(const uint8_t *pack, size_t pack_length)
+static int check(const uint8_t *pack, size_t pack_length)
 {
     khx_checked checked = khx_pack_check(pack, pack_length);
     printf("pack checked: refusal %zu, %zu entries, tags", checked.refusal, checked.entries);
     for (size_t i = 0; khx_pack_entry(pack, pack_length, i).present; i++)
         printf(" %u", (unsigned)khx_pack_entry(pack, pack_length, i).tag);
     printf("\n");
+    return checked.refusal == 0;
+}
+
+/* A pack that lacks its last byte. Whoever asks for a tag without a check must find it, and not look it up: an entry may come all the same. */
+static void unchecked(const uint8_t *pack, size_t pack_length)
+{
+    const uint16_t tags[] = {7, 10};
+    for (size_t i = 0; i < 2; i++) {
+        khx_entry found = khx_pack_find(pack, pack_length, tags[i]), come_to = khx_pack_lookup(pack, pack_length, tags[i]);
+        printf("cut pack, tag %u: found, refusal %zu; looked up, refusal %zu, %u bytes at %u\n", (unsigned)tags[i], found.refusal,
+               come_to.refusal, (unsigned)come_to.length, (unsigned)come_to.offset);
+    }
 }
 
 /* Each instruction is read and written again: the bytes are the same. */
@@ -177,13 +190,15 @@ int main(void)
 {
     static uint8_t pack[KHX_PACK_MAX];
     size_t length = write_pack(pack, sizeof pack);
-    walk_entries(pack, length);
+    if (!check(pack, length))
+        return 1;
     judge(pack, length, 7);
     judge(pack, length, 8);
     judge(pack, length, 9);
     judge(pack, length, 10);
     report(pack, length);
     report(pack, length - 1);
+    unchecked(pack, length - 1);
     trace(DIFFERENCE, sizeof DIFFERENCE);
     copy(COUNTDOWN, sizeof COUNTDOWN);
     fields();

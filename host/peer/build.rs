@@ -9,20 +9,23 @@ use std::path::{Path, PathBuf};
 use std::process::Command;
 
 /// C's functions that are timed, in the order of `sides!`, and their sources.
-const C: [(&str, &str); 5] = [
+const C: [(&str, &str); 6] = [
     ("peer_run", "run"),
     ("peer_verify_bitmap", "verify_bitmap"),
     ("peer_pack_check", "pack"),
     ("peer_verify", "verify"),
     ("peer_run_memmove", "run_memmove"),
+    ("peer_pack_scan", "pack"),
 ];
 /// The proved library's.
-const PROVED: [&str; 5] = [
+const PROVED: [&str; 7] = [
     "khx_run",
     "khx_verify",
     "khx_pack_check",
     "khx_read",
     "khx_list",
+    "khx_pack_find",
+    "khx_pack_lookup",
 ];
 /// How far past a multiple of `LINE` the copies of a function begin.
 const PLACES: [usize; 4] = [0, 16, 32, 48];

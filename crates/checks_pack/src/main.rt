@@ -1,6 +1,6 @@
 // Asks the reader and the writer of packs every case on standard input and prints every answer, one line each.
 // A case is `P` and a pack, answered with its entries; `F`, a tag (two bytes) and a pack, answered with the entry and every byte of
-// the program found; or `W`, three lists (tags, cells, lengths: each its count and its numbers, two bytes each), the bodies, and
+// the program found; `L` and the same, looked up; or `W`, three lists (tags, cells, lengths: each its count and its numbers, two bytes each), the bodies, and
 // a room: its length (four bytes), how many bytes are given (two), these; it is answered with every byte of the room. A pack and
 // bodies are given in pieces. Numbers have their low byte first. A room that is longer than what is given of it repeats that.
 ghost use Prim.Native.Nat.{_≤_};
@@ -57,12 +57,21 @@ fn say_program(pack: &[u8], e: Entry) {
     said::bytes(pack::body(pack, e), 256);
 }
 
-fn ask_find(pack: &[u8], tag: u16) {
-    let found = pack::find(pack, tag);
+fn say_found(pack: &[u8], found: Found) {
     match found {
         Found::Program(e) => say_program(pack, e),
         Found::Refused(n) => said::refused(n),
     }
+}
+
+fn ask_find(pack: &[u8], tag: u16) {
+    let found = pack::find(pack, tag);
+    say_found(pack, found);
+}
+
+fn ask_lookup(pack: &[u8], tag: u16) {
+    let found = pack::lookup(pack, tag);
+    say_found(pack, found);
 }
 
 fn check_case(case: &[u8]) -> usize {
@@ -76,6 +85,13 @@ fn find_case(case: &[u8]) -> usize {
     let mut room = rooms::bytes();
     let laid = pieces::lay(given::rest(case, 3), &mut room);
     ask_find(given::part(&room, 0, laid.reach), given::number(case, 1));
+    3 + laid.read
+}
+
+fn lookup_case(case: &[u8]) -> usize {
+    let mut room = rooms::bytes();
+    let laid = pieces::lay(given::rest(case, 3), &mut room);
+    ask_lookup(given::part(&room, 0, laid.reach), given::number(case, 1));
     3 + laid.read
 }
 
@@ -158,6 +174,9 @@ fn ask_case(case: &[u8]) -> usize {
     }
     if kind == 0x46 {
         return find_case(case);
+    }
+    if kind == 0x4C {
+        return lookup_case(case);
     }
     if kind == 0x57 {
         return write_case(case);

@@ -6,3 +6,4 @@ pub mod Inside
 pub mod Marked
 pub mod Copies
 pub mod Shapes
+pub mod Tags

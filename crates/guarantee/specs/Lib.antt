@@ -3,3 +3,4 @@ pub mod Demands
 pub mod Marked
 pub mod Copies
 pub mod Shapes
+pub mod Tags

@@ -14,7 +14,6 @@ use Rattle.basis.specs.Answer.{Answer, given, refused}
 use Rattle.basis.specs.Number.{numberAt}
 use Rattle.basis.proofs.Tests.{refused-given}
 use Rattle.pack.specs.Contents.{entryAt, entriesFrom, refusalOf, endOf}
-use Rattle.pack.specs.Find.{soughtIn}
 use Rattle.pack.specs.declared.Entry.{Entry}
 
 -- the four numbers of an entry
@@ -56,13 +55,6 @@ module _ (s : List ℕ) (at least end left : ℕ) (e : Entry) (refusal : ℕ) (w
 
   pub end-next : refusal ≡ 0 → endOf (e .tag + 1) (end + e .length) (entriesFrom s (at + 8) (left - 1)) ≡ want
   end-next z = rw same (rw (from-more s at left some, here, eq-eqb refusal 0 z) at whole)
-
-module _ (s : List ℕ) (at left tag : ℕ) (e : Entry) (want : Answer Entry) (some : 0 < left) (same : e ≡ entryAt s at) (whole : soughtIn tag (entriesFrom s at left) ≡ want) where
-  pub sought-here : e .tag ≡ tag → given e ≡ want
-  sought-here h = rw same (rw (from-more s at left some, eq-eqb _ _ (rw same at h)) at whole)
-
-  pub sought-next : (e .tag ≡ tag → ⊥) → soughtIn tag (entriesFrom s (at + 8) (left - 1)) ≡ want
-  sought-next h = rw (from-more s at left some, ne-eqb _ _ (rw same at h)) at whole
 
 -- what an entry that nothing refuses shows
 pub record Passed (least at : ℕ) (e : Entry) : Type 0 where

@@ -2,4 +2,5 @@
 pub mod Contents
 pub mod Read
 pub mod Find
+pub mod Lookup
 pub mod Format

@@ -21,6 +21,14 @@ countOf s = numberAt 2 s 0
 unfoldable pub entriesOf : List ℕ → List Entry
 entriesOf s = entriesFrom s 2 (countOf s)
 
+-- the count of the entries, all of them inside the bytes: "30 contents cut, or n over 64"
+unfoldable pub heldOf : List ℕ → Answer ℕ
+heldOf s =
+    pick (ltb (length s) 2) (refused 30)
+    (pick (ltb 64 (countOf s)) (refused 30)
+    (pick (ltb (length s) (firstOf (countOf s))) (refused 30)
+    (given (countOf s))))
+
 -- where the bodies end by the contents: "30 contents cut, or n over 64; then for each entry .."; how long the pack is after
 -- its contents doesn't matter here
 unfoldable pub contentsOf : List ℕ → Answer ℕ

@@ -4,8 +4,9 @@ ghost use Prim.Native.Nat.{_+_, _≤_};
 ghost use lib.ListN.{length, getElem?};
 ghost use Rattle.basis.specs.Answer.{seen};
 ghost use Rattle.pack.specs.Contents.{firstOf, entryAt, entriesFrom, refusalOf, endOf, bodiesAnswer};
-ghost use Rattle.pack.specs.Read.{contentsOf, readOf, checkedAnswer, listedAnswer};
-ghost use Rattle.pack.specs.Find.{soughtIn, findOf, bodyOf, foundAnswer};
+ghost use Rattle.pack.specs.Read.{heldOf, contentsOf, readOf, checkedAnswer, listedAnswer};
+ghost use Rattle.pack.specs.Find.{findOf, bodyOf, foundAnswer};
+ghost use Rattle.pack.specs.Lookup.{keptOf, halvedOf, lookupOf};
 
 // An entry of the contents: a tag, the cells that its program runs with, and where its body stands in the pack.
 pub struct Entry {
@@ -99,21 +100,32 @@ fn bodies_end(pack: &[u8], n: usize) -> Bodies
     Bodies::End(end)
 }
 
+// How many entries a pack holds, all of them inside it.
+fn held(pack: &[u8]) -> Checked
+    ensures { λ r. ⌜ checkedAnswer r ≡ heldOf (now (pack .entry)) ⌝ }
+{
+    if pack.len() < 2 {
+        return Checked::Refused(30);
+    }
+    let n = basis::number_at(2, pack, 0) as usize;
+    if 64 < n {
+        return Checked::Refused(30);
+    }
+    if pack.len() < 2 + 8 * n {
+        return Checked::Refused(30);
+    }
+    Checked::Entries(n)
+}
+
 // Where the bodies of a pack end by its contents.
 fn contents_end(pack: &[u8]) -> Bodies
     ensures { λ r. ⌜ bodiesAnswer r ≡ contentsOf (now (pack .entry)) ⌝ }
 {
-    if pack.len() < 2 {
-        return Bodies::Refused(30);
+    let entries = held(pack);
+    match entries {
+        Checked::Refused(number) => Bodies::Refused(number),
+        Checked::Entries(n) => bodies_end(pack, n),
     }
-    let n = basis::number_at(2, pack, 0) as usize;
-    if 64 < n {
-        return Bodies::Refused(30);
-    }
-    if pack.len() < 2 + 8 * n {
-        return Bodies::Refused(30);
-    }
-    bodies_end(pack, n)
 }
 
 // Checks a whole pack.
@@ -151,22 +163,43 @@ pub fn entry_at(pack: &[u8], index: usize) -> Listed
     }
 }
 
-// The entry with a tag among the n entries of a pack.
+// The entry at a place, where its tag is the one that is sought and a host may read by what it says.
+fn kept(pack: &[u8], at: usize, tag: u16) -> Found
+    requires { ⌜ at + 8 ≤ length (now pack) ⌝ }
+    ensures { λ r. ⌜ foundAnswer r ≡ keptOf (now (pack .entry)) tag (entryAt (now (pack .entry)) at) ⌝ }
+{
+    if basis::number_at(2, pack, at) != tag {
+        return Found::Refused(36);
+    }
+    let cells = basis::number_at(2, pack, at + 2);
+    if 1024 < cells {
+        return Found::Refused(35);
+    }
+    let length = basis::number_at(2, pack, at + 6);
+    if 16384 < length {
+        return Found::Refused(35);
+    }
+    let offset = basis::number_at(2, pack, at + 4);
+    if pack.len() < offset as usize + length as usize {
+        return Found::Refused(34);
+    }
+    Found::Program(Entry {
+        tag,
+        cells,
+        offset,
+        length,
+    })
+}
+
+// The entry with a tag among the n entries of a pack, by halving.
 fn seek(pack: &[u8], n: usize, tag: u16) -> Found
     requires { ⌜ (n ≤ 64) × (firstOf n ≤ length (now pack)) ⌝ }
-    ensures { λ r. ⌜ foundAnswer r ≡ soughtIn tag (entriesFrom (now (pack .entry)) 2 n) ⌝ }
+    ensures { λ r. ⌜ foundAnswer r ≡ halvedOf (now (pack .entry)) n tag ⌝ }
 {
-    let mut at = 2;
-    let mut left = n;
-    while 0 < left {
-        let e = read_entry(pack, at);
-        if e.tag == tag {
-            return Found::Program(e);
-        }
-        at += 8;
-        left -= 1;
+    if n == 0 {
+        return Found::Refused(36);
     }
-    Found::Refused(36)
+    kept(pack, halving::reach(2, 8, pack, n, tag), tag)
 }
 
 // The entry of the program with a tag.
@@ -177,6 +210,22 @@ pub fn find(pack: &[u8], tag: u16) -> Found
     match checked {
         Checked::Refused(number) => Found::Refused(number),
         Checked::Entries(n) => seek(pack, n, tag),
+    }
+}
+
+// The entry of the program with a tag, in a pack that was checked before: few of its tags are read, and the pack is not checked again. In any other bytes it is one
+// that they hold, or a refusal.
+pub fn lookup(pack: &[u8], tag: u16) -> Found
+    ensures { λ r. ⌜ foundAnswer r ≡ lookupOf (now (pack .entry)) tag ⌝ }
+{
+    let size = pack.len();
+    if 24576 < size {
+        return Found::Refused(31);
+    }
+    let entries = held(pack);
+    match entries {
+        Checked::Refused(cut) => Found::Refused(cut),
+        Checked::Entries(count) => seek(pack, count, tag),
     }
 }
 

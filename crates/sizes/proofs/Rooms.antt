@@ -13,14 +13,12 @@ use Rattle.basis.specs.Pick.{pick}
 use Rattle.basis.specs.Answer.{Answer, given, refused}
 use Rattle.basis.specs.Room.{fitted}
 use Rattle.basis.proofs.Tests.{refused-given, given-one}
+use Rattle.pack.proofs.Sounds.{refused-one}
 use Rattle.sizes.specs.Sizes.{Enough}
 
 pub data Writes (most : ℕ) (write : ℕ → Answer (List ℕ)) : Type 0 where
   early : (k : ℕ) → k ≢ 25 → ((room : ℕ) → write room ≡ refused k) → Writes most write
   late : (bytes : List ℕ) → length bytes ≤ most → ((room : ℕ) → write room ≡ fitted room bytes) → Writes most write
-
-refused-one : (k n : ℕ) → _≡_ {A = Answer (List ℕ)} (refused k) (refused n) → k ≡ n
-refused-one k n e = cc
 
 module _ (most : ℕ) (write : ℕ → Answer (List ℕ)) where
   -- a room of so many bytes is enough

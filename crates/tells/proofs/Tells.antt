@@ -18,9 +18,11 @@ use Rattle.decoder.specs.Decode.{Reading, numberIn, headOf, decodeOf}
 use Rattle.isa.specs.declared.Instruction.{Instruction}
 use Rattle.encoder.specs.Encode.{wellFormed, encodedOf, encodeOf}
 use Rattle.listing.specs.Listing.{listingOf, listOf}
-use Rattle.pack.specs.Contents.{firstOf, refusalOf, endOf}
-use Rattle.pack.specs.Read.{countOf, entriesOf, contentsOf, closedOf, readOf}
+use Rattle.halving.specs.Halving.{reached}
+use Rattle.pack.specs.Contents.{firstOf, entryAt, refusalOf, endOf}
+use Rattle.pack.specs.Read.{countOf, entriesOf, heldOf, contentsOf, closedOf, readOf}
 use Rattle.pack.specs.Find.{soughtIn, foundIn, findOf}
+use Rattle.pack.specs.Lookup.{keptOf, halvedOf, lookedIn, lookupOf}
 use Rattle.pack.specs.Format.{packOf}
 use Rattle.pack.specs.declared.Entry.{Entry}
 use Rattle.packer.specs.Write.{laidOf, alike, endedOf, writeOf}
@@ -109,6 +111,28 @@ found-told tag (refused n) x = x
 pub find-told : (s : List ℕ) (tag : ℕ) → Told (findOf s tag)
 unfolding findOf
 find-told s tag = found-told tag (readOf s) (read-told s)
+
+pub lookup-told : (s : List ℕ) (tag : ℕ) → Told (lookupOf s tag)
+unfolding lookupOf heldOf halvedOf keptOf
+lookup-told s tag = pick-told (ltb 24576 (length s)) _ _ (λ e. omega arith) (in-held (heldOf s) held)
+  where
+    held : Told (heldOf s)
+    held =
+        pick-told (ltb (length s) 2) _ _ (λ e. omega arith)
+        (pick-told (ltb 64 (countOf s)) _ _ (λ e. omega arith)
+        (pick-told (ltb (length s) (firstOf (countOf s))) _ _ (λ e. omega arith) tt))
+
+    kept : (e : Entry) → Told (keptOf s tag e)
+    kept e =
+        pick-told (eqb (e .tag) tag) _ _
+        (pick-told (ltb 1024 (e .cells)) _ _ (λ h. omega arith)
+        (pick-told (ltb 16384 (e .length)) _ _ (λ h. omega arith)
+        (pick-told (ltb (length s) (e .offset + e .length)) _ _ (λ h. omega arith) tt)))
+        (λ h. omega arith)
+
+    in-held : (a : Answer ℕ) → Told a → Told (lookedIn s tag a)
+    in-held (given n) x = pick-told (eqb n 0) _ _ (λ e. omega arith) (kept (entryAt s (reached 2 8 s tag n)))
+    in-held (refused k) x = x
 
 ended-told : (room : ℕ) (es : List Entry) (bodies : List ℕ) (a : Answer ℕ) → Told a → Told (endedOf room es bodies a)
 ended-told room es bodies (given end) x =

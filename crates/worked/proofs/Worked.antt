@@ -13,9 +13,11 @@ use Rattle.machine.specs.Run.{runOf, outcomeOf}
 use Rattle.paths.specs.Walk.{walk, turns, turn, lowest, meets, meet}
 use Rattle.look.specs.Look.{lookOf}
 use Rattle.verifier.specs.Verify.{verifyOf}
+use Rattle.halving.specs.Halving.{narrowed, roundsOf, reached}
 use Rattle.pack.specs.Contents.{entryAt, refusalOf}
-use Rattle.pack.specs.Read.{entriesOf, contentsOf, readOf}
+use Rattle.pack.specs.Read.{entriesOf, heldOf, contentsOf, readOf}
 use Rattle.pack.specs.Find.{findOf}
+use Rattle.pack.specs.Lookup.{keptOf, halvedOf, lookupOf}
 use Rattle.pack.specs.Format.{entryBytes, packOf}
 use Rattle.packer.specs.Write.{writeOf}
 use Rattle.worked.specs.Values.{compared, reckoned, shifted, changed, withByte, withWord}
@@ -73,9 +75,9 @@ states-hold =
     ((refl, refl, refl, refl, refl, refl, refl, refl, refl, refl), (refl, refl, refl, refl, refl, refl, refl, refl, refl, refl, refl, refl, refl, refl, refl, refl, refl, refl, refl, refl, refl))
 
 pub packs-hold : Packs
-unfolding readOf contentsOf entriesOf entryAt refusalOf findOf writeOf packOf entryBytes
+unfolding readOf contentsOf entriesOf entryAt refusalOf findOf lookupOf heldOf halvedOf keptOf reached narrowed roundsOf writeOf packOf entryBytes
 packs-hold =
-    ((refl, refl, refl, refl, refl, refl, refl, refl, refl, refl, refl, refl, refl, refl, refl, refl, refl, refl, refl, refl, refl, refl), (refl, refl, refl, refl, refl, refl, refl, refl, refl, refl, refl))
+    ((refl, refl, refl, refl, refl, refl, refl, refl, refl, refl, refl, refl, refl, refl, refl, refl, refl, refl, refl, refl, refl, refl), (refl, refl, refl, refl, refl, refl, refl, refl, refl, refl, refl, refl, refl, refl, refl, refl, refl, refl, refl, refl, refl, refl, refl, refl, refl, refl), (refl, refl, refl, refl, refl, refl, refl, refl, refl, refl, refl))
 
 -- every row
 pub all-worked : Worked

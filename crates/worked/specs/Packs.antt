@@ -1,12 +1,13 @@
--- Rule packs read, asked for a tag and written: "All fields u16, low byte first. [..] count n (0 to 64), then n entries of tag, cells, offset, length. Bodies
+-- Rule packs read, asked for a tag, looked up in and written: "All fields u16, low byte first. [..] count n (0 to 64), then n entries of tag, cells, offset, length. Bodies
 -- follow in entry order, without gaps; the first offset is 2 + 8n".
-use Prim.Native.Nat.{ℕ, _/_, _%_}
+use Prim.Native.Nat.{ℕ, zero, suc, _+_, _/_, _%_}
 use mathlib.Core.Path.{_≡_}
 use mathlib.Core.List.{List, [], _∷_, _++_}
 use lib.ListN.{replicate}
 use Rattle.basis.specs.Answer.{given, refused}
 use Rattle.pack.specs.Read.{readOf}
 use Rattle.pack.specs.Find.{findOf}
+use Rattle.pack.specs.Lookup.{lookupOf}
 use Rattle.pack.specs.declared.Entry.{Entry}
 use Rattle.packer.specs.Write.{writeOf}
 
@@ -52,6 +53,48 @@ ReadPacks =
     × (findOf (two (laid 5 1 18 1) (laid 0x107 2 19 1) (8 ∷ 9 ∷ [])) 0x107 ≡ given (entry 0x107 2 19 1))
     × (findOf (two (laid 5 1 18 1) (laid 0x107 2 19 1) (8 ∷ 9 ∷ [])) 7 ≡ refused 36)
     × (findOf (one (laid 5 1 10 1) []) 7 ≡ refused 34)
+
+-- n entries with the tags from one on, each 3 above the one before, and empty bodies
+abbrev pub laidFrom : ℕ → ℕ → List ℕ
+laidFrom tag zero = []
+laidFrom tag (suc n) = laid tag 7 514 0 ++ laidFrom (tag + 3) n
+
+abbrev pub three : List ℕ → List ℕ → List ℕ → List ℕ
+three e f g = 3 ∷ 0 ∷ (e ++ (f ++ g))
+
+-- Request No. 4: "Find the entry by halving. The same tag gives the same part of the pack, or 36"; of bytes that are no pack 31 and 30, then 36, and of the
+-- entry that halving comes to 35 and 34
+abbrev pub LookedUp : Type 0
+LookedUp =
+    (lookupOf (two (laid 5 1 18 1) (laid 0x107 2 19 1) (8 ∷ 9 ∷ [])) 5 ≡ given (entry 5 1 18 1))
+    × (lookupOf (two (laid 5 1 18 1) (laid 0x107 2 19 1) (8 ∷ 9 ∷ [])) 0x107 ≡ given (entry 0x107 2 19 1))
+    × (lookupOf (two (laid 5 1 18 1) (laid 0x107 2 19 1) (8 ∷ 9 ∷ [])) 7 ≡ refused 36)
+    × (lookupOf (one (laid 5 1 10 1) (9 ∷ [])) 4 ≡ refused 36)
+    × (lookupOf (0 ∷ 0 ∷ []) 0 ≡ refused 36)
+    -- the first, the last and one between of 64, and tags before, between and behind them
+    × (lookupOf (64 ∷ 0 ∷ laidFrom 3 64) 3 ≡ given (entry 3 7 514 0))
+    × (lookupOf (64 ∷ 0 ∷ laidFrom 3 64) 192 ≡ given (entry 192 7 514 0))
+    × (lookupOf (64 ∷ 0 ∷ laidFrom 3 64) 96 ≡ given (entry 96 7 514 0))
+    × (lookupOf (64 ∷ 0 ∷ laidFrom 3 64) 2 ≡ refused 36)
+    × (lookupOf (64 ∷ 0 ∷ laidFrom 3 64) 97 ≡ refused 36)
+    × (lookupOf (64 ∷ 0 ∷ laidFrom 3 64) 193 ≡ refused 36)
+    -- the refusals, at and past their limits
+    × (lookupOf [] 7 ≡ refused 30)
+    × (lookupOf (0 ∷ []) 7 ≡ refused 30)
+    × (lookupOf (1 ∷ 0 ∷ 7 ∷ 0 ∷ 2 ∷ 0 ∷ 10 ∷ 0 ∷ 0 ∷ []) 7 ≡ refused 30)
+    × (lookupOf (65 ∷ 0 ∷ replicate 520 0) 0 ≡ refused 30)
+    × (lookupOf (65 ∷ 0 ∷ replicate 24575 0) 0 ≡ refused 31)
+    × (lookupOf (1 ∷ 0 ∷ replicate 24574 0) 0 ≡ given (entry 0 0 0 0))
+    × (lookupOf (one (laid 7 1025 10 0) []) 7 ≡ refused 35)
+    × (lookupOf (one (laid 7 1024 0 10) []) 7 ≡ given (entry 7 1024 0 10))
+    × (lookupOf (one (laid 7 0 10 16385) []) 7 ≡ refused 35)
+    × (lookupOf (one (laid 7 0 0 11) []) 7 ≡ refused 34)
+    × (lookupOf (one (laid 7 0 65535 1) []) 7 ≡ refused 34)
+    × (lookupOf (one (laid 7 1025 65535 1) []) 8 ≡ refused 36)
+    -- tags that do not rise: where halving comes to is what it gives
+    × (lookupOf (three (laid 9 0 0 0) (laid 7 0 0 0) (laid 8 0 0 0)) 9 ≡ refused 36)
+    × (lookupOf (three (laid 9 0 0 0) (laid 7 0 0 0) (laid 8 0 0 0)) 7 ≡ given (entry 7 0 0 0))
+    × (lookupOf (three (laid 1 0 0 0) (laid 9 0 0 0) (laid 2 3 4 5)) 2 ≡ given (entry 2 3 4 5))
 
 -- "The writer takes tags, cells and lengths, with the bodies end to end; it gives 30 (n over 64, or lists of unlike length), 32, 35, 34, 31, 25, the entries in
 -- order as above"

@@ -7,7 +7,7 @@ use Rattle.worked.specs.Faults.{past, illegal, unread, cut, few, full, o
 use Rattle.worked.specs.Walk.{mapped, walked, followed}
 use Rattle.worked.specs.Instructions.{read, Written}
 use Rattle.worked.specs.States.{Resumed, Refused}
-use Rattle.worked.specs.Packs.{ReadPacks, WrittenPacks}
+use Rattle.worked.specs.Packs.{ReadPacks, LookedUp, WrittenPacks}
 
 -- the operations of 01 by families
 abbrev pub Operations : Type 0
@@ -33,7 +33,7 @@ States = Resumed × Refused
 
 -- rule packs
 abbrev pub Packs : Type 0
-Packs = ReadPacks × WrittenPacks
+Packs = ReadPacks × LookedUp × WrittenPacks
 
 abbrev pub Worked : Type 0
 Worked = Operations × Faults × Walks × Values × States × Packs

@@ -1,8 +1,8 @@
-//! The twelve cases: each takes its fields, asks, and writes the answer. None where
+//! The thirteen cases: each takes its fields, asks, and writes the answer. None where
 //! a field is missing, too many or outside its kind: nothing was asked then.
 
 use crate::answers::Answer;
-use crate::engine::{Engine, Instruction};
+use crate::engine::{Engine, Entry, Instruction, Number};
 use crate::fields::Fields;
 use crate::{BAD_CASE, LINE_MAX};
 
@@ -31,7 +31,8 @@ fn asked(engine: &dyn Engine, line: &[u8]) -> Option<Answer> {
         b"listing" => listing(engine, fields),
         b"read" => read(engine, fields),
         b"pack" => pack(engine, fields),
-        b"find" => find(engine, fields),
+        b"find" => by_tag(fields, |pack, tag| engine.find(pack, tag)),
+        b"lookup" => by_tag(fields, |pack, tag| engine.lookup(pack, tag)),
         b"writepack" => writepack(engine, fields),
         b"report" => report(engine, fields),
         _ => None,
@@ -137,12 +138,16 @@ fn pack(engine: &dyn Engine, mut fields: Fields) -> Option<Answer> {
     Some(answer)
 }
 
-fn find(engine: &dyn Engine, mut fields: Fields) -> Option<Answer> {
+/// A pack asked for a tag, in either way.
+fn by_tag(
+    mut fields: Fields,
+    asked: impl Fn(&[u8], u16) -> Result<Entry, Number>,
+) -> Option<Answer> {
     let pack = fields.bytes()?;
     let tag = fields.number_u16()?;
     fields.end()?;
     let mut answer = Answer::default();
-    answer.found(&engine.find(&pack, tag));
+    answer.found(&asked(&pack, tag));
     Some(answer)
 }
 

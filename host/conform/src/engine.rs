@@ -137,8 +137,11 @@ pub trait Engine {
     /// The entries of a pack.
     fn pack(&self, pack: &[u8]) -> Result<Vec<Entry>, Number>;
 
-    /// The entry with a tag.
+    /// The entry with a tag, of a pack that is checked first.
     fn find(&self, pack: &[u8], tag: u16) -> Result<Entry, Number>;
+
+    /// The entry with a tag, by halving, of a pack that is not checked.
+    fn lookup(&self, pack: &[u8], tag: u16) -> Result<Entry, Number>;
 
     /// Writes a pack into a room, and gives its length.
     fn writepack(

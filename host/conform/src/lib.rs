@@ -1,7 +1,7 @@
 //! The conformance protocol (docs/CONFORMANCE.md): one line in, one line out, in
 //! order, of any implementation of the machine.
 //!
-//! - [`Engine`]: the twelve questions, over plain data.
+//! - [`Engine`]: the thirteen questions, over plain data.
 //! - [`Proved`] and [`Second`]: the proved library and the second implementation.
 //! - [`answer`]: the answer to one line.
 //! - [`serve`]: the answers to all lines of an input.

@@ -86,6 +86,20 @@ fn every_family_good_and_refused() {
          found 2 10 4
          find 00 7
          refused 30
+         lookup 0100070002000a00040085831500 7
+         found 2 10 4
+         lookup 0100070002000a00040085831500 8
+         refused 36
+         lookup 0100070002000a000400858315 7
+         refused 34
+         lookup 0100070001040a00040085831500 7
+         refused 35
+         lookup 01000700010400000000 6
+         refused 36
+         lookup 02000700000000000000060001000200030000 6
+         found 1 2 3
+         lookup - 7
+         refused 30
          writepack 0007 0002 0004 85831500 ffffffffffffffffffffffffffffffff
          ok 14 0100070002000a00040085831500ffff
          writepack 0007 0002 0004 85831500 ff
@@ -132,6 +146,14 @@ fn sizes_over_the_limits_are_cases() {
             format!("pack {}", "00".repeat(24_577)),
             "refused 31".to_string(),
         ),
+        (
+            format!("lookup {} 0", "00".repeat(24_577)),
+            "refused 31".to_string(),
+        ),
+        (
+            format!("lookup {} 0", "00".repeat(24_576)),
+            "refused 36".to_string(),
+        ),
     ];
     for (case, expected) in cases {
         for engine in ENGINES {
@@ -153,6 +175,8 @@ fn the_edges_of_each_range() {
          refused 22 - 0000
          find 0000 65535
          refused 36
+         lookup 0100ffff000000000000 65535
+         found 0 0 0
          encode 255 65535 255 255 65535 65535 65535 65535 -
          refused 26 -
          decode 85 000
@@ -176,6 +200,7 @@ fn the_edges_of_each_range() {
         "verify 00 65536 0000",
         "read 00 65536",
         "find 0000 65536",
+        "lookup 0000 65536",
         "encode 256 0 0 0 0 0 0 0 -",
         "encode 0 65536 0 0 0 0 0 0 -",
         "encode 0 0 256 0 0 0 0 0 -",
@@ -241,6 +266,7 @@ fn fields_missing_and_too_many() {
         "read 00 1",
         "pack 0000",
         "find 0000 1",
+        "lookup 0000 1",
         "writepack - - - - 0000",
         "report 0000",
     ];
@@ -350,7 +376,7 @@ impl Seeded {
 /// line, and the engines agree.
 #[test]
 fn damaged_lines() {
-    let cases: [&[u8]; 12] = [
+    let cases: [&[u8]; 13] = [
         b"decode c901ffff20 0",
         b"encode 192 0 2 2 1 65535 0 0 aaaaaaaaaa",
         b"shape 59",
@@ -361,6 +387,7 @@ fn damaged_lines() {
         b"read 85831500 5",
         b"pack 0100070002000a00040085831500",
         b"find 0100070002000a00040085831500 7",
+        b"lookup 0100070002000a00040085831500 7",
         b"writepack 0007 0002 0004 85831500 ffffffffffffffffffffffffffffffff",
         b"report 0100070002000a00040085831500",
     ];

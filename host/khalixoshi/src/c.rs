@@ -110,6 +110,7 @@ extern "C" {
     fn khx_pack_check(pack: *const u8, pack_length: usize) -> Checked;
     fn khx_pack_entry(pack: *const u8, pack_length: usize, index: usize) -> Entry;
     fn khx_pack_find(pack: *const u8, pack_length: usize, tag: u16) -> Entry;
+    fn khx_pack_lookup(pack: *const u8, pack_length: usize, tag: u16) -> Entry;
     fn khx_pack_write(
         tags: *const u16,
         tags_count: usize,
@@ -196,6 +197,10 @@ pub fn pack_entry(pack: &[u8], index: usize) -> Entry {
 
 pub fn pack_find(pack: &[u8], tag: u16) -> Entry {
     unsafe { khx_pack_find(pack.as_ptr(), pack.len(), tag) }
+}
+
+pub fn pack_lookup(pack: &[u8], tag: u16) -> Entry {
+    unsafe { khx_pack_lookup(pack.as_ptr(), pack.len(), tag) }
 }
 
 pub fn pack_write(

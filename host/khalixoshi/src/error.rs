@@ -82,7 +82,7 @@ numbers! {
     PackOffset = 33, "an entry's offset is not where the bodies so far end", "write the pack again from its parts";
     PackEnd = 34, "the bodies do not end at the pack's end; in writing the lengths do not sum to the bodies", "the pack is truncated or has bytes too many";
     PackEntry = 35, "an entry of over 1,024 cells or 16,384 bytes", "shorten the rule";
-    PackAbsent = 36, "no entry has the tag", "the pack has no rule for this kind of table";
+    PackAbsent = 36, "no entry has the tag; in a lookup of bytes that were not checked, the entry come to has not", "the pack has no rule for this kind of table; check a pack before you look up in it";
 }
 
 impl Error {

@@ -3,7 +3,8 @@
 //!
 //! A host that judges font tables needs [`tables::judge`] alone: a pack of rules, a
 //! rule's tag and a table go in, and a verdict comes out, good only where the rule said
-//! so. The rest is what it is made of.
+//! so. One that judges many tables by a pack checks it once, by [`pack::Checked`], and
+//! judges by [`tables::judge_in`]. The rest is what these are made of.
 //!
 //! A rule is a small program. It is verified once, and then run over data that the
 //! host lays out for it:
@@ -23,22 +24,22 @@
 //! # Ok::<(), Box<dyn std::error::Error>>(())
 //! ```
 //!
-//! Rules come in packs, found by their tags:
+//! Rules come in packs. A pack is checked once, and its rules looked up by their tags:
 //!
 //! ```
 //! use khalixoshi::pack;
 //!
 //! let rule = pack::Rule { tag: 7, cells: 2, body: &[0x85, 0x83, 0x15, 0x00] };
 //! let bytes = pack::build(&[rule])?;
-//! let entry = pack::find(&bytes, 7)?;
-//! assert_eq!(pack::body(&bytes, &entry), rule.body);
+//! let pack = pack::Checked::new(&bytes)?;
+//! assert_eq!(pack.rule(7)?, rule);
 //! assert_eq!(khalixoshi::verdicts(&bytes), "0007 accepted\n");
 //! # Ok::<(), khalixoshi::Error>(())
 //! ```
 //!
-//! Every memory is lent by the caller, and nothing is kept between calls: calls on
-//! different memories may run at the same time. Beside each function over a lent
-//! room stands one that makes its room itself.
+//! Every memory is lent by the caller, and nothing is kept between calls: calls may run
+//! at the same time, many over one pack too. Beside each function over a lent room
+//! stands one that makes its room itself.
 
 #![deny(unsafe_code)]
 #![warn(missing_docs)]

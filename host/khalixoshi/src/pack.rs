@@ -1,4 +1,7 @@
 //! Rule packs: checked, their entries by index and by tag, written.
+//!
+//! A host that asks one pack for many tags checks it once ([`Checked`]) and looks them
+//! up; [`find`] takes any bytes, and checks all of them at each call.
 
 use crate::{c, Error, PACK_MAX};
 
@@ -15,7 +18,7 @@ pub struct Entry {
     pub length: u16,
 }
 
-/// A rule that goes into a pack.
+/// A rule as it goes into a pack and comes out of one.
 #[derive(Clone, Copy, Debug, PartialEq, Eq)]
 pub struct Rule<'a> {
     /// What it is asked for by.
@@ -78,7 +81,8 @@ pub fn entry(pack: &[u8], index: usize) -> Result<Option<Entry>, Error> {
     Ok((found.present == 1).then(|| Entry::of(&found)))
 }
 
-/// The entry with a tag. Refusals: those of [`check`], then 36.
+/// The entry with a tag, of any bytes: the whole pack is checked at each call. Refusals:
+/// those of [`check`], then 36.
 ///
 /// ```
 /// use khalixoshi::{pack, Error};
@@ -89,8 +93,101 @@ pub fn entry(pack: &[u8], index: usize) -> Result<Option<Entry>, Error> {
 /// # Ok::<(), Error>(())
 /// ```
 pub fn find(pack: &[u8], tag: u16) -> Result<Entry, Error> {
-    let found = c::pack_find(pack, tag);
-    Error::unless_none(found.refusal).map(|()| Entry::of(&found))
+    Entry::found(&c::pack_find(pack, tag))
+}
+
+/// The entry with a tag, of a pack that [`check`] accepted once and that has not changed
+/// since: what [`find`] answers, found by halving, the pack not checked again. [`Checked`] holds
+/// such a pack, and sees to it that it does not change.
+///
+/// Of any other bytes an entry may come that is in no good pack, or 36 though they have
+/// the tag. So much holds of an entry that comes: it has the tag asked for, at most 1,024
+/// cells and 16,384 bytes, and they are inside the bytes. Refusals: 31, 30, 36, 35, and
+/// 34 where its body ends past the pack's end; they do not stand in for the check.
+///
+/// ```
+/// use khalixoshi::{pack, Error};
+///
+/// let mut bytes = [1, 0, 7, 0, 2, 0, 10, 0, 4, 0, 0x85, 0x83, 0x15, 0x00];
+/// assert_eq!(pack::check(&bytes), Ok(1));
+/// assert_eq!(pack::lookup(&bytes, 7), pack::find(&bytes, 7));
+/// assert_eq!(pack::lookup(&bytes, 8), Err(Error::PackAbsent));
+///
+/// bytes[8] = 3; // one byte of the body less, and the pack is none any more
+/// assert_eq!(pack::find(&bytes, 7), Err(Error::PackEnd));
+/// assert_eq!(pack::lookup(&bytes, 7)?.length, 3);
+/// # Ok::<(), Error>(())
+/// ```
+pub fn lookup(pack: &[u8], tag: u16) -> Result<Entry, Error> {
+    Entry::found(&c::pack_lookup(pack, tag))
+}
+
+/// A pack that was checked: its rules are looked up by their tags, as often as they are
+/// needed, without another check. The bytes are borrowed, so they stay what they were.
+///
+/// ```
+/// use khalixoshi::pack::{build, Checked, Rule};
+/// use khalixoshi::Error;
+///
+/// let body = [0x85, 0x83, 0x15, 0x00];
+/// let rules = [3, 7, 9].map(|tag| Rule { tag, cells: 2, body: &body });
+/// let bytes = build(&rules)?;
+///
+/// let pack = Checked::new(&bytes)?;
+/// assert_eq!(pack.count(), 3);
+/// for rule in rules {
+///     assert_eq!(pack.rule(rule.tag), Ok(rule));
+/// }
+/// assert_eq!(pack.rule(8), Err(Error::PackAbsent));
+///
+/// // the last byte is missing
+/// let cut = &bytes[..bytes.len() - 1];
+/// assert_eq!(Checked::new(cut), Err(Error::PackEnd));
+/// # Ok::<(), Error>(())
+/// ```
+///
+/// While it is there nobody can change a byte:
+///
+/// ```compile_fail,E0506
+/// # use khalixoshi::pack::Checked;
+/// let mut bytes = [0, 0];
+/// let pack = Checked::new(&bytes)?;
+/// bytes[0] = 1;
+/// pack.lookup(7)?;
+/// # Ok::<(), khalixoshi::Error>(())
+/// ```
+#[derive(Clone, Copy, Debug, PartialEq, Eq)]
+pub struct Checked<'a> {
+    bytes: &'a [u8],
+    count: usize,
+}
+
+impl<'a> Checked<'a> {
+    /// Checks a whole pack. Refusals: those of [`check`].
+    pub fn new(pack: &'a [u8]) -> Result<Checked<'a>, Error> {
+        let count = check(pack)?;
+        Ok(Checked { bytes: pack, count })
+    }
+
+    /// How many rules it has.
+    pub fn count(&self) -> usize {
+        self.count
+    }
+
+    /// The entry with a tag. Refusal: 36.
+    pub fn lookup(&self, tag: u16) -> Result<Entry, Error> {
+        lookup(self.bytes, tag)
+    }
+
+    /// The rule with a tag, its body a part of the pack. Refusal: 36.
+    pub fn rule(&self, tag: u16) -> Result<Rule<'a>, Error> {
+        let entry = self.lookup(tag)?;
+        Ok(Rule {
+            tag,
+            cells: entry.cells,
+            body: body(self.bytes, &entry),
+        })
+    }
 }
 
 /// The body of an entry: the part of the pack that it names, as far as the pack
@@ -158,6 +255,11 @@ pub fn build(rules: &[Rule]) -> Result<Vec<u8>, Error> {
 }
 
 impl Entry {
+    /// The entry that was asked for by its tag, or the refusal.
+    fn found(answer: &c::Entry) -> Result<Entry, Error> {
+        Error::unless_none(answer.refusal).map(|()| Entry::of(answer))
+    }
+
     fn of(plain: &c::Entry) -> Entry {
         Entry {
             tag: plain.tag,

@@ -3,11 +3,12 @@
 //!
 //! A rule's data is 64 bytes that the host writes and behind them bytes of the table.
 //! It halts with 1 for a good table, with 0 where it asks for other bytes, and with
-//! the number of a reason otherwise. [`judge`] does all of it:
+//! the number of a reason otherwise. [`judge`] does all of it, for any bytes as a pack;
+//! [`judge_in`] for a pack that was checked, once for all tables that are judged by it:
 //!
 //! ```
-//! use khalixoshi::pack::{build, Rule};
-//! use khalixoshi::tables::{judge, Facts};
+//! use khalixoshi::pack::{build, Checked, Rule};
+//! use khalixoshi::tables::{judge, judge_in, Facts};
 //!
 //! // whether a table begins with 7: 1, good, or 2, the reason why not
 //! let body = [
@@ -17,8 +18,13 @@
 //!     0x82, 0x00, // 0006 push-u8 $02, halt
 //!     0x81, 0x00, // 0008 push-u8 $01, halt
 //! ];
-//! let pack = build(&[Rule { tag: 1, cells: 1, body: &body }])?;
-//! let says = |tag, table: &[u8]| judge(&pack, tag, table, &Facts::default()).to_string();
+//! let bytes = build(&[Rule { tag: 1, cells: 1, body: &body }])?;
+//! let facts = Facts::default();
+//! let verdict = judge(&bytes, 1, &[7, 8, 9], &facts);
+//! assert!(verdict.is_good());
+//!
+//! let pack = Checked::new(&bytes)?;
+//! let says = |tag, table: &[u8]| judge_in(&pack, tag, table, &facts).to_string();
 //! assert_eq!(says(1, &[7, 8, 9]), "good");
 //! assert_eq!(says(1, &[9, 8, 7]), "refused 2");
 //! assert_eq!(says(1, &[]), "no verdict: fault 6 at 0000");
@@ -30,7 +36,8 @@
 
 use std::fmt;
 
-use crate::{depths, pack, Error, Fault, Ran, Refused, State, Status};
+use crate::pack::Checked;
+use crate::{depths, Error, Fault, Ran, Refused, State, Status};
 
 /// What the data begins with, so that no rule judges a table that is lent alone.
 pub const MARK: [u8; 4] = *b"KHX1";
@@ -137,13 +144,36 @@ pub enum Why {
     Unmarked,
 }
 
-/// The verdict of the rule with a tag on a table: the rule is found and verified, the
-/// table lent, the rule run, lent what it asks for, and run again until it says.
+/// The verdict of the rule with a tag on a table: the pack is checked, the rule looked up
+/// and verified, the table lent, the rule run, lent what it asks for, and run again until
+/// it says.
 ///
-/// The pack may be any bytes, and the table too.
+/// The pack may be any bytes, and the table too. Where many tables are judged by one
+/// pack, [`judge_in`] spares all checks but the first.
 pub fn judge(pack: &[u8], tag: u16, table: &[u8], facts: &Facts) -> Verdict {
-    match pack::find(pack, tag) {
-        Ok(entry) => judge_by(pack::body(pack, &entry), entry.cells.into(), table, facts),
+    match Checked::new(pack) {
+        Ok(pack) => judge_in(&pack, tag, table, facts),
+        Err(error) => Verdict::None(Why::Pack(error)),
+    }
+}
+
+/// The same by a pack that was checked.
+///
+/// ```
+/// use khalixoshi::pack::{build, Checked, Rule};
+/// use khalixoshi::tables::{judge_in, Facts, Verdict};
+///
+/// // push 1, halt: every table is good; push 2, halt: none is
+/// let rules = [(1, &[0x81, 0x00]), (2, &[0x82, 0x00])];
+/// let bytes = build(&rules.map(|(tag, body)| Rule { tag, cells: 1, body }))?;
+/// let pack = Checked::new(&bytes)?;
+/// let judged = |tag| judge_in(&pack, tag, &[], &Facts::default());
+/// assert_eq!([judged(1), judged(2)], [Verdict::Good, Verdict::Refused(2)]);
+/// # Ok::<(), khalixoshi::Error>(())
+/// ```
+pub fn judge_in(pack: &Checked, tag: u16, table: &[u8], facts: &Facts) -> Verdict {
+    match pack.rule(tag) {
+        Ok(rule) => judge_by(rule.body, rule.cells.into(), table, facts),
         Err(Error::PackAbsent) => Verdict::None(Why::NoRule(tag)),
         Err(error) => Verdict::None(Why::Pack(error)),
     }

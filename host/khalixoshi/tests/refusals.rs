@@ -1,6 +1,6 @@
 //! Every refusal of every function, by its own number, and what it leaves untouched.
 
-use khalixoshi::pack::{self, Entry, Rule};
+use khalixoshi::pack::{self, Checked, Entry, Rule};
 use khalixoshi::{
     decode, depths, encode, encoded, list, listing, report, shape, verdicts, verify, Error, Fault,
     Instruction, Reader, Refused, Shape, State, Status, CELLS_MAX, DATA_MAX, ENTRIES_MAX,
@@ -246,32 +246,35 @@ fn the_longest_listing() {
     assert_eq!(listing(&pushes).unwrap().as_bytes(), room);
 }
 
+/// The pack with another byte at a place.
+fn altered(at: usize, byte: u8) -> Vec<u8> {
+    let mut pack = PACK;
+    pack[at] = byte;
+    pack.to_vec()
+}
+
+/// Rules of one byte under these tags, whatever their order; their cells tell them apart.
+fn tagged(tags: &[u16]) -> Vec<u8> {
+    let rule = |place| Rule {
+        tag: place,
+        cells: place,
+        body: &[0],
+    };
+    let rules: Vec<Rule> = (0..tags.len() as u16).map(rule).collect();
+    let mut pack = pack::build(&rules).unwrap();
+    for (place, tag) in tags.iter().enumerate() {
+        pack[2 + 8 * place..][..2].copy_from_slice(&tag.to_le_bytes());
+    }
+    pack
+}
+
 #[test]
 fn packs_read() {
-    let altered = |at: usize, byte| {
-        let mut pack = PACK;
-        pack[at] = byte;
-        pack.to_vec()
-    };
-    let mut twice = pack::build(&[
-        Rule {
-            tag: 6,
-            cells: 0,
-            body: &[0],
-        },
-        Rule {
-            tag: 7,
-            cells: 0,
-            body: &[0],
-        },
-    ])
-    .unwrap();
-    twice[2] = 7;
     let cases = [
         (PACK[..9].to_vec(), Error::PackContents),
         (altered(0, 65), Error::PackContents),
         (vec![0; PACK_MAX + 1], Error::PackSize),
-        (twice, Error::PackTags),
+        (tagged(&[7, 7]), Error::PackTags),
         (altered(6, 11), Error::PackOffset),
         (PACK[..13].to_vec(), Error::PackEnd),
         (altered(5, 5), Error::PackEntry),
@@ -281,6 +284,7 @@ fn packs_read() {
         assert_eq!(pack::entries(&bytes), Err(error));
         assert_eq!(pack::entry(&bytes, 0), Err(error));
         assert_eq!(pack::find(&bytes, 7), Err(error));
+        assert_eq!(Checked::new(&bytes), Err(error));
         assert_eq!(
             verdicts(&bytes),
             format!("pack refused {}\n", error.number())
@@ -288,6 +292,48 @@ fn packs_read() {
     }
     assert_eq!(pack::find(&PACK, 8), Err(Error::PackAbsent));
     assert_eq!(pack::entry(&PACK, usize::MAX), Ok(None));
+}
+
+/// Of bytes that are no pack: each refusal, and entries that no check stands behind.
+#[test]
+fn lookups_without_a_check() {
+    let refused = [
+        (vec![0; PACK_MAX + 1], Error::PackSize),
+        (PACK[..9].to_vec(), Error::PackContents),
+        (altered(0, 65), Error::PackContents),
+        (altered(5, 5), Error::PackEntry),
+        (altered(9, 65), Error::PackEntry),
+        (altered(6, 11), Error::PackEnd),
+        (PACK[..13].to_vec(), Error::PackEnd),
+        (tagged(&[7, 6]), Error::PackAbsent),
+    ];
+    for (bytes, error) in refused {
+        assert_eq!(pack::lookup(&bytes, 7), Err(error));
+    }
+    let offset = |bytes: &[u8]| pack::lookup(bytes, 7).map(|entry| entry.offset);
+    assert_eq!(offset(&tagged(&[7, 7])), Ok(19));
+    assert_eq!(offset(&tagged(&[9, 7])), Ok(19));
+    assert_eq!(offset(&altered(6, 0)), Ok(0));
+    assert_eq!(offset(&[&PACK[..], &[0]].concat()), Ok(10));
+}
+
+/// Packs of every size: a tag is looked up as it is found, there or between two.
+#[test]
+fn lookups_in_checked_packs() {
+    for count in 0..=ENTRIES_MAX as u16 {
+        let tags: Vec<u16> = (0..count).map(|place| 3 * place + 1).collect();
+        let bytes = tagged(&tags);
+        let pack = Checked::new(&bytes).unwrap();
+        assert_eq!(pack.count(), tags.len());
+        for tag in (0..=3 * count + 1).chain([u16::MAX]) {
+            let found = pack::find(&bytes, tag);
+            assert_eq!(found.is_ok(), tags.contains(&tag));
+            assert_eq!(pack.lookup(tag), found, "{tag} of {count}");
+            let body = pack.rule(tag).map(|rule| (rule.cells, rule.body));
+            let expected = found.map(|entry| (entry.cells, pack::body(&bytes, &entry)));
+            assert_eq!(body, expected, "{tag} of {count}");
+        }
+    }
 }
 
 /// An entry that is not the pack's own names no byte outside the pack.

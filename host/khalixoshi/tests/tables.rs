@@ -1,10 +1,10 @@
 //! The convention between host and rule: what is lent, byte for byte, what is lent
 //! again, every verdict, and that no table comes through by accident.
 
-use khalixoshi::pack::{body, build, entries, find, Rule};
+use khalixoshi::pack::{body, build, entries, find, Checked, Rule};
 use khalixoshi::tables::{
-    judge, judge_by, tests_mark, Facts, Lending, Next, Preamble, Verdict, Why, BUDGET, MARK, PIECE,
-    PREAMBLE,
+    judge, judge_by, judge_in, tests_mark, Facts, Lending, Next, Preamble, Verdict, Why, BUDGET,
+    MARK, PIECE, PREAMBLE,
 };
 use khalixoshi::{Error, Fault, Ran, Refused, State, Status};
 
@@ -451,22 +451,19 @@ fn every_verdict() {
         rule(9, 1, &[0xC4, 0xFF, 0xFF, 0x00]), // push 65,535, halt
     ])
     .unwrap();
-    let said = |pack: &[u8], tag, verdict: Verdict, words: &str| {
-        assert_eq!(judge(pack, tag, &[0; 4], &FACTS), verdict);
+    let checked = Checked::new(&pack).unwrap();
+    let said = |tag, verdict: Verdict, words: &str| {
+        assert_eq!(judge(&pack, tag, &[0; 4], &FACTS), verdict);
+        assert_eq!(judge_in(&checked, tag, &[0; 4], &FACTS), verdict);
         assert_eq!(verdict.to_string(), words);
         assert_eq!(verdict.is_good(), words == "good");
     };
     let none = |tag, why, words: &str| {
-        said(
-            &pack,
-            tag,
-            Verdict::None(why),
-            &format!("no verdict: {words}"),
-        );
+        said(tag, Verdict::None(why), &format!("no verdict: {words}"));
     };
-    said(&pack, 1, Verdict::Good, "good");
-    said(&pack, 2, Verdict::Refused(2), "refused 2");
-    said(&pack, 9, Verdict::Refused(65_535), "refused 65535");
+    said(1, Verdict::Good, "good");
+    said(2, Verdict::Refused(2), "refused 2");
+    said(9, Verdict::Refused(65_535), "refused 65535");
     let full = Refused {
         error: Error::Full,
         at: Some(0),
@@ -494,9 +491,10 @@ fn every_verdict() {
         "it asks for bytes from 117967114 on, and the table has 4",
     );
     none(10, Why::NoRule(10), "no rule has the tag 10");
-    let cut = &pack[..pack.len() - 1];
-    let refused = Verdict::None(Why::Pack(Error::PackEnd));
-    said(cut, 1, refused, "no verdict: the pack is refused by 34");
+    let refused = judge(&pack[..pack.len() - 1], 1, &[0; 4], &FACTS);
+    assert_eq!(refused, Verdict::None(Why::Pack(Error::PackEnd)));
+    let words = "no verdict: the pack is refused by 34";
+    assert_eq!(refused.to_string(), words);
 }
 
 /// Causes that no pack leads to: more cells than there may be, and what hosts of other

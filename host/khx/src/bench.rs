@@ -6,6 +6,8 @@ mod clock;
 mod findings;
 mod processor;
 mod programs;
+mod random;
+mod tags;
 
 use std::io::{self, ErrorKind, Write};
 use std::time::Duration;
@@ -22,9 +24,10 @@ Times the proved library against plain careful C that does the same checks, by g
 -O2, gcc -O3 and, where it was installed when khx was built, clang -O3: the fastest of
 them is the yardstick. Where code lies in memory moves its time, so each side is linked
 and timed at four places, 16 bytes apart, and the means are compared. Says whether the
-targets are met; short, copy, pack-check, read and list have none, and the last two are
-timed alone, since that C has no reader and no listing. A CASE is one of those below or
-the beginning of some, up to a dash: verify, copy. Without a CASE, all of them.
+targets are met; short, copy, pack-check, the finds, read and list have none, and the
+last two are timed alone, since that C has no reader and no listing. A tag it finds by a
+scan without any check, in a pack that was checked once. A CASE is one of those below or
+the beginning of some, up to a dash: verify, copy, tags-64. Without a CASE, all of them.
 
   --seconds N   how long to time, all cases together (default 10)
 
@@ -42,7 +45,9 @@ The C build with the least mean is the yardstick; beside it stand C's verifier w
 cursor and its run that copies by memmove. A ratio is C's mean by ours: over 1, ours is
 faster. On x86-64 the library fixes the place of its run, so that every program has it
 there: as shipped, our time at that place, and by it C's at its fastest place, by its
-fastest build.
+fastest build. A pack is asked for its tags 65,536 times a call, in passes over all of
+them, each in another order, so that the processor does not learn where a scan will end;
+C's scan trusts a pack that was checked once, and checks nothing.
 ";
 
 /// The seconds, and the cases that are asked for.
@@ -194,6 +199,7 @@ mod tests {
         };
         assert_eq!(names("copy"), ["copy-up", "copy-down", "copy-apart"]);
         assert_eq!(names("copy-up pack"), ["copy-up", "pack-check"]);
+        assert_eq!(names("tags-4"), ["tags-4-lookup", "tags-4-find"]);
         assert!(wanted(&words("cop")).is_err());
     }
 

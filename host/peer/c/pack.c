@@ -1,4 +1,7 @@
-/* The check of a pack: its size, its contents, then each entry's tag, sizes and offset, last the end of the bodies. */
+/*
+ * The check of a pack: its size, its contents, then each entry's tag, sizes and offset, last the end of the bodies. And
+ * the scan for a tag, which trusts that the pack has passed it.
+ */
 #include "peer.h"
 
 static inline uint32_t number_at(const uint8_t *pack, size_t at)
@@ -28,4 +31,16 @@ peer_checked peer_pack_check(const uint8_t *pack, size_t pack_length)
     }
     if (end != pack_length) return (peer_checked){34, 0};
     return (peer_checked){0, entries};
+}
+
+peer_found peer_pack_scan(const uint8_t *pack, uint16_t tag)
+{
+    uint32_t entries = number_at(pack, 0), i;
+
+    for (i = 0; i < entries; i++) {
+        const uint8_t *entry = pack + 2 + 8 * i;
+        if (number_at(entry, 0) == tag)
+            return (peer_found){0, {number_at(entry, 0), number_at(entry, 2), number_at(entry, 4), number_at(entry, 6)}};
+    }
+    return (peer_found){36, {0, 0, 0, 0}};
 }

@@ -44,6 +44,20 @@ typedef struct {
     uint32_t entries;
 } peer_checked;
 
+/* An entry of a pack, its numbers in the order they have there. */
+typedef struct {
+    uint16_t tag;
+    uint16_t cells;
+    uint16_t offset;
+    uint16_t length;
+} peer_entry;
+
+/* The refusal is a word, so that all comes back in two registers: one of 32 bits gcc joins to the entry by way of memory. */
+typedef struct {
+    size_t refusal;
+    peer_entry entry;
+} peer_found;
+
 /* At most `budget` steps. Refusals: 20, 21, 22, 24. */
 peer_ran peer_run(peer_state state, const uint8_t *program, size_t program_length, uint8_t *data, size_t data_length,
                   uint16_t *cells, size_t cells_length, uint32_t budget);
@@ -62,5 +76,8 @@ peer_verdict peer_verify_bitmap(const uint8_t *program, size_t program_length, s
 
 /* Checks a whole pack. Refusals: 30 to 35. */
 peer_checked peer_pack_check(const uint8_t *pack, size_t pack_length);
+
+/* The entry with a tag, by a scan from the first one on, in a pack that was checked: nothing is checked here. Refusal: 36. */
+peer_found peer_pack_scan(const uint8_t *pack, uint16_t tag);
 
 #endif

@@ -2,6 +2,8 @@
 //! All unsafe code of this crate is written here. Both sides take the same arguments; how they
 //! write their numbers and states is their [`Form`].
 
+use std::ptr;
+
 use crate::PLACES;
 
 /// The status of a machine that has halted, as C numbers it; 0 is one that runs, and any
@@ -105,6 +107,52 @@ pub struct Decoded {
     _instruction: [u16; 7],
 }
 
+/// An entry of a pack. Its tag is the one that was asked for, and is not looked at here.
+#[repr(C)]
+pub struct Entry {
+    _tag: u16,
+    cells: u16,
+    offset: u16,
+    length: u16,
+}
+
+/// What the library says to a tag.
+#[repr(C)]
+pub struct ProvedFound {
+    refusal: usize,
+    _present: usize,
+    entry: Entry,
+}
+
+impl ProvedFound {
+    /// The refusal, and the entry's numbers, each read by itself as C reads it: the library
+    /// has written them so, and a processor waits where they are read in one piece.
+    fn numbers(&self) -> [u32; 4] {
+        let entry = &self.entry;
+        let [cells, offset, length] = [&entry.cells, &entry.offset, &entry.length].map(|number| {
+            // SAFETY: a reference can be read.
+            u32::from(unsafe { ptr::read_volatile(number) })
+        });
+        [self.refusal as u32, cells, offset, length]
+    }
+}
+
+/// What C's scan says to it.
+#[repr(C)]
+pub struct PlainFound {
+    refusal: usize,
+    entry: Entry,
+}
+
+impl PlainFound {
+    /// As [`ProvedFound::numbers`], but out of registers.
+    fn numbers(&self) -> [u32; 4] {
+        let entry = &self.entry;
+        let [cells, offset, length] = [entry.cells, entry.offset, entry.length].map(u32::from);
+        [self.refusal as u32, cells, offset, length]
+    }
+}
+
 /// From a state, over program, data and cells, at most so many steps.
 pub type Run<F> = unsafe extern "C" fn(
     <F as Form>::State,
@@ -126,6 +174,10 @@ pub type PackCheck<F> = unsafe extern "C" fn(*const u8, usize) -> Said<F>;
 pub type Read = unsafe extern "C" fn(*const u8, usize, *mut usize) -> Decoded;
 /// The listing of a program, into a room.
 pub type List = unsafe extern "C" fn(*const u8, usize, *mut u8, usize) -> Said<Proved>;
+/// The entry of a pack with a tag.
+pub type Find = unsafe extern "C" fn(*const u8, usize, u16) -> ProvedFound;
+/// The same of a pack that was checked.
+pub type Scan = unsafe extern "C" fn(*const u8, u16) -> PlainFound;
 
 /// One function at each of its places.
 pub type Copies<Function> = [Function; PLACES];
@@ -271,4 +323,46 @@ impl Lister {
         let said = unsafe { (self.0[place])(program, length, room, room_length) };
         said.numbers()
     }
+}
+
+/// A way to find tags, of the two that the library has.
+pub struct Finder(pub(crate) Copies<Find>);
+
+impl Finder {
+    /// Asks a pack for tags, one after the other: the sums of the refusals, the cells, the
+    /// offsets and the lengths.
+    pub fn find(&self, place: usize, pack: &[u8], tags: &[u16]) -> [u32; 4] {
+        sums(tags, |tag| {
+            // SAFETY: the pointer is the slice's own, with its length.
+            let found = unsafe { (self.0[place])(pack.as_ptr(), pack.len(), tag) };
+            found.numbers()
+        })
+    }
+}
+
+/// The scan for a tag, which C alone has.
+pub struct Scanner(pub(crate) Copies<Scan>);
+
+impl Scanner {
+    /// As [`Finder::find`]. The pack is checked first, once for all tags.
+    pub fn find(&self, place: usize, pack: &[u8], tags: &[u16]) -> [u32; 4] {
+        let [refusal, _] = crate::PROVED.pack_check(place, pack);
+        assert_eq!(refusal, 0);
+        sums(tags, |tag| {
+            // SAFETY: the pointer is the slice's own, and the pack in it is good.
+            let found = unsafe { (self.0[place])(pack.as_ptr(), tag) };
+            found.numbers()
+        })
+    }
+}
+
+/// The sums of the numbers that some tags are answered with.
+fn sums(tags: &[u16], find: impl Fn(u16) -> [u32; 4]) -> [u32; 4] {
+    let mut sums = [0_u32; 4];
+    for &tag in tags {
+        for (sum, number) in sums.iter_mut().zip(find(tag)) {
+            *sum = sum.wrapping_add(number);
+        }
+    }
+    sums
 }

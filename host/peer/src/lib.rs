@@ -6,9 +6,10 @@
 
 mod functions;
 
-use functions::{copies, Copies, List, PackCheck, Read, Run, Verify, VerifyByCursor};
+use functions::{copies, Copies, Find, List, PackCheck, Read, Run, Scan, Verify, VerifyByCursor};
 pub use functions::{
-    Cursor, Form, Functions, Lister, Measured, Memmove, Plain, Proved, Reader, HALTED,
+    Cursor, Finder, Form, Functions, Lister, Measured, Memmove, Plain, Proved, Reader, Scanner,
+    HALTED,
 };
 
 /// Each function is linked so many times.
@@ -32,6 +33,8 @@ pub struct Build {
     pub cursor: Cursor,
     /// Its run that copies by memmove.
     pub memmove: Memmove,
+    /// Its scan of a pack for a tag.
+    pub scanner: Scanner,
 }
 
 /// The functions of a side, from the names of their copies.
@@ -48,8 +51,8 @@ macro_rules! functions {
 /// The sides, from the names of their copies.
 macro_rules! sides {
     (
-        proved $run:tt $verify:tt $pack_check:tt $read:tt $list:tt;
-        $($name:literal $version:literal $c_run:tt $c_verify:tt $c_pack_check:tt $c_cursor:tt $c_memmove:tt;)*
+        proved $run:tt $verify:tt $pack_check:tt $read:tt $list:tt $find:tt $lookup:tt;
+        $($name:literal $version:literal $c_run:tt $c_verify:tt $c_pack_check:tt $c_cursor:tt $c_memmove:tt $c_scan:tt;)*
     ) => {
         /// The proved library.
         pub static PROVED: Functions<Proved> = functions!(Proved, $run $verify $pack_check);
@@ -60,6 +63,12 @@ macro_rules! sides {
         /// The proved library's listing.
         pub static LISTER: Lister = Lister(copies!(List, $list));
 
+        /// The proved library's find, which checks the whole pack each time.
+        pub static FIND: Finder = Finder(copies!(Find, $find));
+
+        /// The proved library's lookup, for a pack that was checked.
+        pub static LOOKUP: Finder = Finder(copies!(Find, $lookup));
+
         /// The builds of the C that are measured: what a user would write instead is
         /// compiled by the best compiler at hand.
         pub static BUILDS: &[Build] = &[$(Build {
@@ -68,6 +77,7 @@ macro_rules! sides {
             functions: functions!(Plain, $c_run $c_verify $c_pack_check),
             cursor: Cursor(copies!(VerifyByCursor, $c_cursor)),
             memmove: Memmove(copies!(Run<Plain>, $c_memmove)),
+            scanner: Scanner(copies!(Scan, $c_scan)),
         }),*];
     };
 }
@@ -98,6 +108,8 @@ pub fn check_places() -> Result<(), String> {
     check_functions(proved, &PROVED)?;
     check(proved, "read", READER.0.map(|copy| copy as usize))?;
     check(proved, "list", LISTER.0.map(|copy| copy as usize))?;
+    check(proved, "find", FIND.0.map(|copy| copy as usize))?;
+    check(proved, "lookup", LOOKUP.0.map(|copy| copy as usize))?;
     for build in BUILDS {
         let side = format!("C by {}", build.name);
         check_functions(&side, &build.functions)?;
@@ -105,6 +117,8 @@ pub fn check_places() -> Result<(), String> {
         check(&side, "verify with a cursor", cursor)?;
         let memmove = build.memmove.0.map(|copy| copy as usize);
         check(&side, "run by memmove", memmove)?;
+        let scanner = build.scanner.0.map(|copy| copy as usize);
+        check(&side, "scan for a tag", scanner)?;
     }
     Ok(())
 }

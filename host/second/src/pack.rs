@@ -1,4 +1,4 @@
-//! Rule packs, read and written (01, "Rule pack").
+//! Rule packs, read and written (01, "Rule pack"), and looked up (request No. 4).
 
 use crate::instruction::low_byte_first;
 use crate::numbers::{
@@ -28,10 +28,7 @@ const COUNT_BYTES: usize = 2;
 /// or length over 16,384, 33 wrong offset; last 34 bodies don't end at the pack's
 /// end."
 pub fn entries(pack: &[u8]) -> Result<Vec<Entry>, u32> {
-    if pack.len() > PACK_BYTES {
-        return Err(PACK_SIZE);
-    }
-    let entries = contents(pack).ok_or(CONTENTS)?;
+    let entries = unchecked_entries(pack)?;
     let mut end = COUNT_BYTES + ENTRY_BYTES * entries.len();
     let mut before = None;
     for entry in &entries {
@@ -46,6 +43,14 @@ pub fn entries(pack: &[u8]) -> Result<Vec<Entry>, u32> {
         return Err(PACK_END);
     }
     Ok(entries)
+}
+
+/// The entries as they stand in the contents: 31, 30, and no other check.
+fn unchecked_entries(pack: &[u8]) -> Result<Vec<Entry>, u32> {
+    if pack.len() > PACK_BYTES {
+        return Err(PACK_SIZE);
+    }
+    contents(pack).ok_or(CONTENTS)
 }
 
 /// 01: "All fields u16, low byte first. Contents first: count n (0 to 64), then n
@@ -70,6 +75,11 @@ fn good_entry(before: Option<u16>, tag: u16, cells: u16, length: u16) -> Result<
     if before.map_or(false, |before| tag <= before) {
         return Err(TAG_ORDER);
     }
+    good_size(cells, length)
+}
+
+/// The check 35 of an entry.
+fn good_size(cells: u16, length: u16) -> Result<(), u32> {
     if usize::from(cells) > STACK_CELLS || usize::from(length) > PROGRAM_BYTES {
         return Err(ENTRY_SIZE);
     }
@@ -85,7 +95,46 @@ pub fn find(pack: &[u8], tag: u16) -> Result<(Entry, &[u8]), u32> {
     Ok((entry, program(pack, &entry)))
 }
 
-/// The program of an entry of a good pack.
+/// The entry of a tag and its program, in a pack that is not checked. Request No. 4:
+/// "Find the entry by halving. The same tag gives the same part of the pack, or 36."
+/// So much for a good pack. Of any bytes: 31 and 30 as in a check, 36 where there is no
+/// entry or the one come to has another tag, then of that one 35, and 34 where its
+/// program ends past the pack's end.
+pub fn lookup(pack: &[u8], tag: u16) -> Result<(Entry, &[u8]), u32> {
+    let entries = unchecked_entries(pack)?;
+    let entry = halved(&entries, tag).filter(|entry| entry.tag == tag);
+    let entry = entry.ok_or(NO_TAG)?;
+    good_size(entry.cells, entry.length)?;
+    if usize::from(entry.offset) + usize::from(entry.length) > pack.len() {
+        return Err(PACK_END);
+    }
+    Ok((entry, program(pack, &entry)))
+}
+
+/// The entry that halving comes to. It begins at the first one, which it is where there
+/// is no other. Else `width` is the greatest power of two below their count. Where entry
+/// number `width` has a tag not above the one sought, it goes to the first of the last
+/// `width` entries; then further by half of that, and half again, down to 1, wherever
+/// the entry it would go to has such a tag.
+fn halved(entries: &[Entry], tag: u16) -> Option<Entry> {
+    let count = entries.len();
+    let below = |power: &usize| *power < count;
+    let mut at = 0;
+    if let Some(mut width) = [32, 16, 8, 4, 2, 1].into_iter().find(below) {
+        if entries[width].tag <= tag {
+            at = count - width;
+        }
+        while width > 1 {
+            width /= 2;
+            if entries[at + width].tag <= tag {
+                at += width;
+            }
+        }
+    }
+    entries.get(at).copied()
+}
+
+/// The program of an entry that is inside its pack.
 pub fn program<'a>(pack: &'a [u8], entry: &Entry) -> &'a [u8] {
     let start = usize::from(entry.offset);
     &pack[start..start + usize::from(entry.length)]

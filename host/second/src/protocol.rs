@@ -122,7 +122,7 @@ pub fn pack_answer(answer: &Result<Vec<Entry>, u32>) -> String {
     }
 }
 
-/// The answer of `find`.
+/// The answer of `find` and of `lookup`.
 pub fn find_answer(answer: &Result<(Entry, &[u8]), u32>) -> String {
     match answer {
         Ok((entry, _)) => format!("found {} {} {}", entry.cells, entry.offset, entry.length),
@@ -209,6 +209,8 @@ mod tests {
         assert_eq!(pack_answer(&pack::entries(&[])), "refused 30");
         assert_eq!(find_answer(&pack::find(&bytes, 7)), "found 2 10 4");
         assert_eq!(find_answer(&pack::find(&bytes, 8)), "refused 36");
+        assert_eq!(find_answer(&pack::lookup(&bytes, 7)), "found 2 10 4");
+        assert_eq!(find_answer(&pack::lookup(&bytes[..13], 7)), "refused 34");
         assert_eq!(report_answer(&report(&bytes)), "0007 accepted|");
         assert_eq!(report_answer(&report(&[0, 0])), "-");
     }

@@ -13,6 +13,7 @@ mod forms;
 mod isa;
 mod line;
 mod listing;
+mod lookups;
 mod machine;
 mod maker;
 mod malformed;
@@ -79,8 +80,8 @@ impl Maker<'_> {
         let drawn = match self.large {
             true => self
                 .source
-                .one_of(&[0, 3, 6, 11, 17, 22, 24, 26, 28, 29, 31]),
-            false => self.source.below(32),
+                .one_of(&[0, 3, 6, 11, 17, 22, 24, 26, 28, 29, 31, 32]),
+            false => self.source.below(36),
         };
         match drawn {
             0 | 1 => self.decode(),
@@ -94,7 +95,8 @@ impl Maker<'_> {
             26 | 27 => self.pack(),
             28 => self.find(),
             29 | 30 => self.writepack(),
-            _ => self.report(),
+            31 => self.report(),
+            _ => self.lookup(),
         }
     }
 }

@@ -23,17 +23,22 @@ impl Maker<'_> {
     /// `find PACK TAG`.
     pub fn find(&mut self) -> Line {
         let (pack, tags) = self.some_pack();
+        let tag = self.tag_near(&tags);
+        Line::new("find").bytes(&pack).number(tag)
+    }
+
+    /// One of the tags, one beside it, or any.
+    pub fn tag_near(&mut self, tags: &[u16]) -> u16 {
         let tag = match tags.len() {
             0 => self.source.number(),
-            _ => self.source.one_of(&tags),
+            _ => self.source.one_of(tags),
         };
-        let tag = match self.source.below(8) {
+        match self.source.below(8) {
             0 => self.source.number(),
             1 => tag.wrapping_add(1),
             2 => tag.wrapping_sub(1),
             _ => tag,
-        };
-        Line::new("find").bytes(&pack).number(tag)
+        }
     }
 
     /// `report PACK`.
@@ -58,7 +63,7 @@ impl Maker<'_> {
     }
 
     /// A pack and its tags: two in three well formed.
-    fn some_pack(&mut self) -> (Vec<u8>, Vec<u16>) {
+    pub fn some_pack(&mut self) -> (Vec<u8>, Vec<u16>) {
         let mut rules = self.rules();
         let spoiled = self.source.below(6);
         if spoiled == 0 {

@@ -15,6 +15,8 @@ pub enum Planted {
     Copy,
     /// The row of call-imm8 has what it takes and what it pushes exchanged.
     Shape,
+    /// A lookup does not come to the last entry.
+    Lookup,
 }
 
 /// The code of ld-u16-offs.
@@ -23,10 +25,12 @@ const LOAD: u8 = 0x20;
 const DATA_COPY: u8 = 0x02;
 /// The code of call-imm8.
 const CALL: u8 = 0x3B;
+/// The refusal of a tag that is absent.
+const ABSENT: Number = 36;
 
 impl Planted {
     /// All of them.
-    pub const ALL: [Planted; 3] = [Planted::Sum, Planted::Copy, Planted::Shape];
+    pub const ALL: [Planted; 4] = [Planted::Sum, Planted::Copy, Planted::Shape, Planted::Lookup];
 
     /// Its word on the command line.
     pub fn name(self) -> &'static str {
@@ -34,6 +38,7 @@ impl Planted {
             Planted::Sum => "sum",
             Planted::Copy => "copy",
             Planted::Shape => "shape",
+            Planted::Lookup => "lookup",
         }
     }
 }
@@ -95,12 +100,22 @@ fn step_by_copy(program: &[u8], data: &mut [u8], stack: &mut [u16], state: State
     ran
 }
 
+/// A lookup that finds what is there, but not where it is the last entry of the contents.
+fn lookup_but_last(pack: &[u8], tag: u16) -> Result<Entry, Number> {
+    let found = Second.lookup(pack, tag)?;
+    let last = 2 + 8 * (usize::from(pack[0]) - 1);
+    match pack[last..last + 2] == tag.to_le_bytes() {
+        true => Err(ABSENT),
+        false => Ok(found),
+    }
+}
+
 impl Engine for Planted {
     fn step(&self, program: &[u8], data: &mut [u8], stack: &mut [u16], state: State) -> Ran {
         match self {
             Planted::Sum => step_by_sum(program, data, stack, state),
             Planted::Copy => step_by_copy(program, data, stack, state),
-            Planted::Shape => Second.step(program, data, stack, state),
+            _ => Second.step(program, data, stack, state),
         }
     }
 
@@ -164,6 +179,13 @@ impl Engine for Planted {
 
     fn find(&self, pack: &[u8], tag: u16) -> Result<Entry, Number> {
         Second.find(pack, tag)
+    }
+
+    fn lookup(&self, pack: &[u8], tag: u16) -> Result<Entry, Number> {
+        match self {
+            Planted::Lookup => lookup_but_last(pack, tag),
+            _ => Second.lookup(pack, tag),
+        }
     }
 
     fn writepack(
@@ -237,6 +259,26 @@ mod tests {
         let lines: Vec<String> = others.map(|first| format!("shape {first}")).collect();
         let lines: Vec<&[u8]> = lines.iter().map(String::as_bytes).collect();
         alike(Planted::Shape, &lines);
+    }
+
+    /// 01's example alone, and before a second entry.
+    #[test]
+    fn a_lookup_wrong_in_one_place() {
+        let last: &[u8] = b"lookup 0100070002000a00040085831500 7";
+        assert_eq!(answer(&Second, last), "found 2 10 4");
+        assert_eq!(answer(&Planted::Lookup, last), "refused 36");
+        alike(
+            Planted::Lookup,
+            &[
+                b"lookup 020007000000000000000800000000000000 7",
+                b"lookup 020007000000000000000800000000000000 9",
+                b"lookup 0100070001040a00040085831500 7",
+                b"lookup 0100070002000a000400858315 7",
+                b"lookup 4100070002000a00040085831500 7",
+                b"lookup 0000 7",
+                b"find 0100070002000a00040085831500 7",
+            ],
+        );
     }
 
     fn alike(planted: Planted, lines: &[&[u8]]) {

@@ -13,7 +13,7 @@ pub struct Tally {
 }
 
 /// The families of the protocol, in its order.
-const FAMILIES: [&str; 12] = [
+const FAMILIES: [&str; 13] = [
     "decode",
     "encode",
     "shape",
@@ -24,6 +24,7 @@ const FAMILIES: [&str; 12] = [
     "read",
     "pack",
     "find",
+    "lookup",
     "writepack",
     "report",
 ];
@@ -170,7 +171,7 @@ mod tests {
 
     #[test]
     fn kinds_of_answers() {
-        let kinds: [(&[u8], &str, &str, Kind); 14] = [
+        let kinds: [(&[u8], &str, &str, Kind); 16] = [
             (
                 b"decode 00 0",
                 "ok 1 0 0 0 0 0 0 0 0",
@@ -212,6 +213,8 @@ mod tests {
                 "read",
                 Kind::Refused(2),
             ),
+            (b"lookup a 7", "found 2 10 4", "lookup", Kind::Good("found")),
+            (b"lookup a 7", "refused 36", "lookup", Kind::Refused(36)),
             (b"report a", "pack refused 30|", "report", Kind::Refused(30)),
             (
                 b"report a",

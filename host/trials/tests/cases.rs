@@ -7,7 +7,7 @@ use conform::{answer, Second, LINE_MAX};
 use trials::{Cases, Kind, Tally, COPIED, NO_CASE};
 
 const SEED: u64 = 1;
-/// The rarest answer, 21 of a step, comes about five times in so many.
+/// The rarest answer, 21 of a step, comes about four times in so many.
 const COUNT: u64 = 200_000;
 
 fn lines() -> impl Iterator<Item = Vec<u8>> {
@@ -31,7 +31,7 @@ fn the_same_seed_gives_the_same_cases() {
 }
 
 /// The refusals and faults that 01 has for each family.
-const NUMBERS: [(&str, &[u32], &[u32]); 12] = [
+const NUMBERS: [(&str, &[u32], &[u32]); 13] = [
     ("decode", &[1, 2, 3, 20], &[]),
     ("encode", &[25, 26], &[]),
     ("shape", &[], &[]),
@@ -42,12 +42,13 @@ const NUMBERS: [(&str, &[u32], &[u32]); 12] = [
     ("read", &[1, 2, 3, 20], &[]),
     ("pack", &[30, 31, 32, 33, 34, 35], &[]),
     ("find", &[30, 31, 32, 33, 34, 35, 36], &[]),
+    ("lookup", &[30, 31, 34, 35, 36], &[]),
     ("writepack", &[25, 30, 31, 32, 34, 35], &[]),
     ("report", &[30, 31, 32, 33, 34, 35], &[]),
 ];
 
 /// The other answers of each family.
-const GOOD: [(&str, &[&str]); 14] = [
+const GOOD: [(&str, &[&str]); 15] = [
     ("decode", &["ok"]),
     ("encode", &["ok"]),
     ("shape", &["illegal", "row"]),
@@ -58,6 +59,7 @@ const GOOD: [(&str, &[&str]); 14] = [
     ("read", &["nothing", "ok"]),
     ("pack", &["ok"]),
     ("find", &["found"]),
+    ("lookup", &["found"]),
     ("writepack", &["ok"]),
     ("report", &["all accepted", "nothing", "some refused"]),
     (NO_CASE, &["bad case"]),
@@ -121,6 +123,7 @@ fn at_the_limits_and_past_them() {
     sizes_at_the_limits(&lines);
     numbers_at_the_limits(&lines);
     all_first_bytes(&lines);
+    all_counts(&lines);
 }
 
 fn sizes_at_the_limits(lines: &[Vec<u8>]) {
@@ -135,6 +138,7 @@ fn sizes_at_the_limits(lines: &[Vec<u8>]) {
         ("verify", 2, cells, 16_384),
         ("listing", 0, bytes, 16_384),
         ("pack", 0, bytes, 24_576),
+        ("lookup", 0, bytes, 24_576),
         ("writepack", 0, cells, 64),
     ] {
         let words = fields(lines, family, field);
@@ -148,6 +152,18 @@ fn all_first_bytes(lines: &[Vec<u8>]) {
     let found: BTreeSet<&[u8]> = fields(lines, "shape", 0).collect();
     for first in 0..=258 {
         assert!(found.contains(first.to_string().as_bytes()), "{first}");
+    }
+}
+
+/// Tags are looked up in packs of every number of entries, and of one too many.
+fn all_counts(lines: &[Vec<u8>]) {
+    let counts = fields(lines, "lookup", 0).filter_map(|pack| pack.get(..4));
+    let found: BTreeSet<&[u8]> = counts.collect();
+    for count in 0..=65 {
+        assert!(
+            found.contains(format!("{count:02x}00").as_bytes()),
+            "{count}"
+        );
     }
 }
 
@@ -175,6 +191,7 @@ fn numbers_at_the_limits(lines: &[Vec<u8>]) {
         ),
         ("encode", 2, &["0", "1", "4", "5", "255"]),
         ("find", 1, &["0", "65535"]),
+        ("lookup", 1, &["0", "65535"]),
     ] {
         let found: BTreeSet<&[u8]> = fields(lines, family, field).collect();
         for number in numbers {

@@ -1,6 +1,6 @@
 //! Both implementations answer alike, and a planted difference is noticed.
 
-use conform::{Proved, Second};
+use conform::{answer, Proved, Second};
 use trials::{trial, Cases, Difference, Planted};
 
 const SEED: u64 = 1;
@@ -61,6 +61,35 @@ fn a_planted_row_is_noticed() {
         assert_eq!(difference.line, b"shape 59");
         assert_eq!(difference.answers, ["row 2 0 1", "row 2 1 0"]);
     }
+}
+
+/// Where a found entry is not come to.
+#[test]
+fn a_planted_lookup_is_noticed() {
+    for difference in noticed(Planted::Lookup, &["lookup"]) {
+        let [proved, planted] = &difference.answers;
+        assert!(proved.starts_with("found ") && planted == "refused 36");
+    }
+}
+
+/// Of the proved library alone: in every pack that is well formed a tag is looked up as it
+/// is found.
+#[test]
+fn lookups_in_good_packs_are_finds() {
+    let cases = Cases::new(SEED);
+    let mut asked = 0;
+    for line in (0..10 * COUNT).map(|number| cases.case(number)) {
+        let fields = match line.strip_prefix(b"lookup ") {
+            Some(fields) => fields,
+            None => continue,
+        };
+        let found = answer(&Proved, &[&b"find "[..], fields].concat());
+        if found.starts_with("found ") || found == "refused 36" {
+            assert_eq!(answer(&Proved, &line), found);
+            asked += 1;
+        }
+    }
+    assert!(asked >= 4_000, "{asked}");
 }
 
 /// The answer of a step without the data.

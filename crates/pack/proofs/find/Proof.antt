@@ -9,6 +9,7 @@ use Rattle.basis.specs.Answer.{given}
 use Rattle.pack.specs.Read.{readOf, checkedAnswer}
 use Rattle.pack.specs.Find.{findOf}
 use Rattle.pack.proofs.Sounds.{counted, refused-seen}
+use Rattle.pack.proofs.Tags.{halved-sought}
 use Rattle.pack.proofs.find.Statement.{statement}
 use Rattle.pack.proofs.find.Tie as tie
 
@@ -31,8 +32,10 @@ returns c = simp (refused-seen length (readOf (now (c .before .before .before .b
 
 returns-2 : tie.Need-returns-2
 unfolding findOf
-returns-2 c = let k = counted (now (c .before .before .before .before .before .before .args .pack)) _ (sym (c .before .before .before .before .check .ensures) ∙ ap checkedAnswer (c .before .before .checked2 .given .1)) in
-    simp (k .read) (c .seek .ensures)
+returns-2 c = let a = c .before .before .before .before .before .before .args in
+    let s = now (a .pack) in
+    let k = counted s _ (sym (c .before .before .before .before .check .ensures) ∙ ap checkedAnswer (c .before .before .checked2 .given .1)) in
+    simp (k .read) (c .seek .ensures ∙ halved-sought s _ (a .tag) (k .few) (k .ends))
 
 pub find-spec : {M : Type 1} → statement M
 find-spec =

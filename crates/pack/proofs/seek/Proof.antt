@@ -1,61 +1,27 @@
 -- `pack::seek` meets its contract.
 -- Assumes nothing.
-use Prim.Native.Nat.{_+_, _-_, _*_, _≤_}
-use native.Mathlib.Omega.{arith}
-use mathlib.Core.Path.{_≡_, refl}
-use lib.ListN.{length}
+use borrow.Author.Needs.{needs}
 use denote.Ref.{now}
-use Rattle.pack.specs.Contents.{entriesFrom}
-use Rattle.pack.specs.Find.{soughtIn}
-use Rattle.pack.proofs.Walks.{sought-here, sought-next}
+use Rattle.pack.specs.Find.{foundAnswer}
+use Rattle.pack.proofs.Keeps.{reached-in, halved-none, halved-kept}
 use Rattle.pack.proofs.seek.Statement.{statement}
 use Rattle.pack.proofs.seek.Tie as tie
 
-abbrev Inv-loop : tie.InvT-loop
-Inv-loop pack n tag at₀ left₀ at left = (left ≤ n) × (at + 8 * left ≤ length pack) × (soughtIn tag (entriesFrom pack at left) ≡ soughtIn tag (entriesFrom pack 2 n))
+returns : tie.Need-returns
+returns c = let a = c .before .before .args in
+    halved-none (now (a .pack)) (a .n) (a .tag) (c .if1 .taken)
 
-abbrev μ-loop : tie.MeasureT-loop
-μ-loop pack n tag at₀ left₀ at left = left
+reach-requires : tie.Need-reach-requires
+reach-requires c κs = search needs
 
-loop-holds : tie.Need-loop-holds Inv-loop μ-loop
-loop-holds c = (omega arith, omega arith, refl)
+kept-requires : tie.Need-kept-requires
+kept-requires c κs = let a = c .before .before .before .args in
+    let p = c .before .before .before .pre in
+    reached-in (now (a .pack)) (a .n) _ (c .reach .result) (c .before .if1 .left) (p .0) (p .1) (c .reach .ensures)
 
-read-entry-requires : tie.Need-read-entry-requires Inv-loop μ-loop
-read-entry-requires c κs = omega arith
-
-returns : tie.Need-returns Inv-loop μ-loop
-returns c = let l = c .before .before .before .before .loop in
-    let a = c .before .before .before .before .before .before .args in
-    sought-here (now (a .pack)) (l .at) (l .left) (a .tag) (c .before .before .read-entry .result) _ (omega arith) (c .before .before .read-entry .ensures) (l .inv .2) (c .if1 .taken)
-
-add-at : tie.Need-add-at Inv-loop μ-loop
-add-at c = omega arith
-
-sub-left : tie.Need-sub-left Inv-loop μ-loop
-sub-left c = omega arith
-
-loop-less : tie.Need-loop-less Inv-loop μ-loop
-loop-less c = omega arith
-
-loop-again : tie.Need-loop-again Inv-loop μ-loop
-loop-again c = let l = c .before .before .before .before .loop in
-    let a = c .before .before .before .before .before .before .args in
-    (omega arith, omega arith, sought-next (now (a .pack)) (l .at) (l .left) (a .tag) (c .before .before .read-entry .result) _ (omega arith) (c .before .before .read-entry .ensures) (l .inv .2) (c .if1 .left))
-
-returns-2 : tie.Need-returns-2 Inv-loop μ-loop
-returns-2 c = let z : c .before .loop .left ≡ 0 = omega arith in rw z at (c .before .loop .inv .2)
+returns-2 : tie.Need-returns-2
+returns-2 c = let a = c .before .before .before .before .args in
+    halved-kept (now (a .pack)) (a .n) (a .tag) (c .before .reach .result) (foundAnswer (c .kept .result)) (c .before .before .if1 .left) (c .before .reach .ensures) (c .kept .ensures)
 
 pub seek-spec : {M : Type 1} → statement M
-seek-spec =
-    tie.close
-    (tie.spec
-    Inv-loop
-    μ-loop
-    loop-holds
-    read-entry-requires
-    returns
-    add-at
-    sub-left
-    loop-less
-    loop-again
-    returns-2)
+seek-spec = tie.close (tie.spec returns reach-requires kept-requires returns-2)

@@ -78,6 +78,11 @@ impl Engine for Proved {
         Ok(entry(&found))
     }
 
+    fn lookup(&self, pack: &[u8], tag: u16) -> Result<Entry, Number> {
+        let found = pack::lookup(pack, tag).map_err(Error::number)?;
+        Ok(entry(&found))
+    }
+
     fn writepack(
         &self,
         tags: &[u16],

@@ -81,6 +81,11 @@ impl Engine for Second {
         Ok(entry(&found))
     }
 
+    fn lookup(&self, pack: &[u8], tag: u16) -> Result<Entry, Number> {
+        let (found, _) = pack::lookup(pack, tag).map_err(number)?;
+        Ok(entry(&found))
+    }
+
     fn writepack(
         &self,
         tags: &[u16],

@@ -101,6 +101,8 @@ pub enum Unit {
     Step(u32),
     /// One of so many bytes that a call copies.
     Byte(u32),
+    /// One of so many tags that a call asks for.
+    Tag(u32),
     /// A call, which examines so many instructions.
     Instructions(u32),
     /// A call.

@@ -1,10 +1,13 @@
 //! The cases, each with the work of its sides.
 
+use khalixoshi::pack::{self, Checked};
 use khalixoshi::tables::{Facts, Lending, BUDGET};
-use khalixoshi::{pack, CELLS_MAX, LIST_MAX, PACK_MAX, UNMET};
+use khalixoshi::{CELLS_MAX, LIST_MAX, PACK_MAX, UNMET};
+use peer::Finder;
 
 use super::case::{self, Answer, Case, Side, Unit, Work};
 use super::programs;
+use super::tags::{Tags, ASKED};
 
 /// The rules that ship in examples/, and the tags of two of them.
 const RULES: &[u8] = include_bytes!("../../../../examples/fonts.pack");
@@ -22,6 +25,7 @@ const FACTS: Facts = Facts {
 
 /// All cases, in the order in which they are timed.
 pub fn all() -> Vec<Case> {
+    let rules = Checked::new(RULES).expect("the shipped pack is good");
     vec![
         run(
             "counting",
@@ -46,12 +50,12 @@ pub fn all() -> Vec<Case> {
         run(
             "loca",
             "run: the shipped rule for loca over a real table of 3,378 offsets",
-            Run::of_rule(LOCA, include_bytes!("tables/loca")),
+            Run::of_rule(&rules, LOCA, include_bytes!("tables/loca")),
         ),
         short(
             "short",
             "run: the shipped rule for OS/2 over a real table, 52 steps, each call from a fresh state",
-            Run::of_rule(OS2, include_bytes!("tables/os2")),
+            Run::of_rule(&rules, OS2, include_bytes!("tables/os2")),
         ),
         short(
             "short-20",
@@ -106,8 +110,34 @@ pub fn all() -> Vec<Case> {
             about: "pack check: 24 KB, 64 entries",
             sides: case::both(),
             unit: Unit::Call,
-            work: Box::new(PackCheck { pack: full_pack() }),
+            work: Box::new(PackCheck {
+                pack: full_pack(64),
+            }),
         },
+        tags(
+            "tags-64-lookup",
+            "lookup: all tags of a pack of 64 rules, checked once, each pass in another order",
+            64,
+            &peer::LOOKUP,
+        ),
+        tags(
+            "tags-64-find",
+            "find: the same; it checks the pack for each tag",
+            64,
+            &peer::FIND,
+        ),
+        tags(
+            "tags-4-lookup",
+            "lookup: as tags-64-lookup, a pack of 4 rules",
+            4,
+            &peer::LOOKUP,
+        ),
+        tags(
+            "tags-4-find",
+            "find: as tags-64-find, a pack of 4 rules",
+            4,
+            &peer::FIND,
+        ),
         read(
             "read",
             "read: 16 KB, random instructions of all kinds, one after the other",
@@ -160,6 +190,16 @@ fn verify(name: &'static str, about: &'static str, program: Vec<u8>) -> Case {
     }
 }
 
+fn tags(name: &'static str, about: &'static str, entries: u16, ours: &'static Finder) -> Case {
+    Case {
+        name,
+        about,
+        sides: case::both(),
+        unit: Unit::Tag(ASKED),
+        work: Box::new(Tags::of(full_pack(entries), ours)),
+    }
+}
+
 fn read(name: &'static str, about: &'static str, program: Vec<u8>) -> Case {
     let [_, _, instructions] = peer::READER.read(0, &program);
     Case {
@@ -201,12 +241,11 @@ impl Run {
     }
 
     /// A shipped rule over a real table as a host lends it, with its cells.
-    fn of_rule(tag: u16, table: &[u8]) -> Run {
-        let rule = pack::find(RULES, tag).expect("the shipped pack has the rule");
-        let body = pack::body(RULES, &rule);
+    fn of_rule(rules: &Checked, tag: u16, table: &[u8]) -> Run {
+        let rule = rules.rule(tag).expect("the shipped pack has the rule");
         let lending = Lending::new(table, &FACTS, BUDGET);
         let data = lending.expect("the table is short").data().to_vec();
-        Run::of(body.to_vec(), data, rule.cells.into())
+        Run::of(rule.body.to_vec(), data, rule.cells.into())
     }
 }
 
@@ -340,20 +379,19 @@ impl Work for List {
     }
 }
 
-/// A pack of the largest size with as many entries as there may be.
-fn full_pack() -> Vec<u8> {
-    let contents = 2 + 8 * 64;
-    let length = (PACK_MAX - contents) / 64;
-    let last = PACK_MAX - contents - 63 * length;
-    let body = vec![0x01; last];
-    let rules: Vec<pack::Rule> = (0..64)
+/// A pack of the largest size with so many entries, 2 to 64.
+fn full_pack(entries: u16) -> Vec<u8> {
+    let count = usize::from(entries);
+    let bodies = vec![0x01; PACK_MAX - (2 + 8 * count)];
+    let begin = |i: u16| usize::from(i) * bodies.len() / count;
+    let rules: Vec<pack::Rule> = (0..entries)
         .map(|i| pack::Rule {
             tag: i * 7,
             cells: 16 * i,
-            body: if i < 63 { &body[..length] } else { &body },
+            body: &bodies[begin(i)..begin(i + 1)],
         })
         .collect();
-    pack::build(&rules).expect("64 entries and 24,576 bytes are allowed")
+    pack::build(&rules).expect("up to 64 entries and 24,576 bytes are allowed")
 }
 
 #[cfg(test)]
@@ -413,6 +451,15 @@ mod tests {
         let listed = case("list").outcome(Side::Proved, 0);
         assert_eq!(listed.answer[..2], [0, listing.len() as u32]);
         assert_eq!(listed.bytes[..listing.len()], *listing.as_bytes());
+    }
+
+    #[test]
+    fn the_packs_are_full() {
+        for entries in [4, 64] {
+            let pack = full_pack(entries);
+            assert_eq!(pack.len(), PACK_MAX);
+            assert_eq!(pack::check(&pack), Ok(entries.into()));
+        }
     }
 
     #[test]

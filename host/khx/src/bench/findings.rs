@@ -70,7 +70,7 @@ impl Finding {
     fn instruction(&self) -> f64 {
         match self.unit {
             Unit::Instructions(count) => self.ours.mean() / f64::from(count),
-            Unit::Step(_) | Unit::Byte(_) | Unit::Call => f64::NAN,
+            Unit::Step(_) | Unit::Byte(_) | Unit::Tag(_) | Unit::Call => f64::NAN,
         }
     }
 
@@ -79,6 +79,7 @@ impl Finding {
         match self.unit {
             Unit::Step(steps) => format!("{:.2}", time / f64::from(steps)),
             Unit::Byte(bytes) => format!("{:.3}", time / f64::from(bytes)),
+            Unit::Tag(tags) => format!("{:.2}", time / f64::from(tags)),
             Unit::Instructions(_) => format!("{:.1}", time / 1_000.0),
             Unit::Call => format!("{time:.0}"),
         }
@@ -108,6 +109,7 @@ impl Finding {
             match self.unit {
                 Unit::Step(_) => "ns/step",
                 Unit::Byte(_) => "ns/byte",
+                Unit::Tag(_) => "ns/tag",
                 Unit::Instructions(_) => "us/call",
                 Unit::Call => "ns/call",
             },
@@ -197,7 +199,18 @@ pub fn targets(findings: &[Finding]) -> String {
             text += &growth(hostile, straight);
         }
     }
-    text
+    text + &lookups(findings)
+}
+
+/// The targets of the lookup, by the size of its pack.
+fn lookups(findings: &[Finding]) -> String {
+    let of = |name, target, bound| {
+        let named: Vec<&Finding> = findings.iter().filter(|f| f.name == name).collect();
+        least(target, bound, &named, Finding::ratio)
+    };
+    let of_64 = "lookup in a pack of 64 rules 3 times as fast as C's scan";
+    let of_4 = "lookup in a pack of 4 rules at least as fast as C's scan";
+    of("tags-64-lookup", of_64, 3.0) + &of("tags-4-lookup", of_4, 1.0)
 }
 
 /// Whether the least ratio of some cases reaches a bound; nothing where there is none.
@@ -379,6 +392,28 @@ mod tests {
              (a call 3.00, an instruction examined 6.00)\n\
              verify-branches at most 3 times verify-straight, both of 16 KB: missed \
              (a call 3.10, an instruction examined 3.10)\n"
+        );
+    }
+
+    #[test]
+    fn a_lookup_is_judged_by_the_size_of_its_pack() {
+        let tags = |name, ours| Finding {
+            unit: Unit::Tag(10),
+            ..run(name, ours, 20.0)
+        };
+        let findings = [
+            tags("tags-64-lookup", 8.0),
+            tags("tags-64-find", 40.0),
+            tags("tags-4-lookup", 8.0),
+        ];
+        let line = "tags-64-lookup ns/tag 0.80 (0.40..1.20) 2.00 (1.00..3.00) gcc -O2 2.50 5";
+        assert_eq!(words(&table(&findings)), line);
+        assert_eq!(
+            targets(&findings),
+            "lookup in a pack of 64 rules 3 times as fast as C's scan: missed \
+             (least 2.50, tags-64-lookup)\n\
+             lookup in a pack of 4 rules at least as fast as C's scan: met \
+             (least 2.50, tags-4-lookup)\n"
         );
     }
 

@@ -2,6 +2,8 @@
 
 use khalixoshi::PROGRAM_MAX;
 
+use super::random::Random;
+
 /// Counts down from 65,535, the counter in data 0.
 pub fn counting() -> Vec<u8> {
     vec![
@@ -259,18 +261,6 @@ fn kind(random: &mut Random, depth: usize) -> &'static Kind {
         if !few && !many {
             return kind;
         }
-    }
-}
-
-/// Numbers from a seed that is not 0.
-struct Random(u64);
-
-impl Random {
-    fn below(&mut self, end: usize) -> usize {
-        self.0 ^= self.0 << 13;
-        self.0 ^= self.0 >> 7;
-        self.0 ^= self.0 << 17;
-        (self.0 >> 16) as usize % end
     }
 }
 

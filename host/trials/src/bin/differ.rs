@@ -23,7 +23,7 @@ library's answers.
   --plant ERROR  the second implementation with a planted error: sum, one kind of load
                  adds its operands modulo 65,536; copy, dcopy reads bytes that it has
                  written; shape, the row of call-imm8 has its values taken and pushed
-                 exchanged
+                 exchanged; lookup, halving does not come to the last entry of a pack
   --print        prints the cases and asks nobody, for `khx conform`
 
 Exit status: 0 no difference, 1 a difference, 2 bad usage.

@@ -1,0 +1,113 @@
+//! Packs asked for all their tags.
+
+use khalixoshi::pack;
+use peer::Finder;
+
+use super::case::{Answer, Side, Work};
+use super::random::Random;
+
+/// So many tags a call asks for. An order that repeats much sooner is learnt by a processor,
+/// which then knows where each scan will end, as it never does in a reader.
+pub const ASKED: u32 = 65_536;
+
+/// A pack asked for its tags, one after the other: the library in one of its ways, C by a
+/// scan. The pack is only read.
+pub struct Tags {
+    pack: Vec<u8>,
+    asked: Vec<u16>,
+    ours: &'static Finder,
+}
+
+impl Tags {
+    pub fn of(pack: Vec<u8>, ours: &'static Finder) -> Tags {
+        Tags {
+            asked: asked(&pack),
+            pack,
+            ours,
+        }
+    }
+}
+
+impl Work for Tags {
+    fn clear(&mut self) {}
+
+    fn call(&mut self, side: Side, place: usize) -> Answer {
+        let (pack, tags) = (&self.pack, &self.asked);
+        let [refusals, cells, offsets, lengths] = match side {
+            Side::Proved => self.ours.find(place, pack, tags),
+            Side::C(build) | Side::Cursor(build) | Side::Memmove(build) => {
+                peer::BUILDS[build].scanner.find(place, pack, tags)
+            }
+        };
+        [refusals, cells, offsets, lengths, 0]
+    }
+
+    fn memories(&self) -> (Vec<u8>, Vec<u16>) {
+        (Vec::new(), Vec::new())
+    }
+}
+
+/// All tags of a pack over and over, each time in another order.
+fn asked(pack: &[u8]) -> Vec<u16> {
+    let entries = pack::entries(pack).expect("the pack is good");
+    let mut tags: Vec<u16> = entries.iter().map(|entry| entry.tag).collect();
+    let mut random = Random(1);
+    let mut asked = Vec::new();
+    while asked.len() < ASKED as usize {
+        random.shuffle(&mut tags);
+        asked.extend(&tags);
+    }
+    asked
+}
+
+#[cfg(test)]
+mod tests {
+    use super::*;
+    use crate::bench::case;
+
+    /// A pack of 4 rules with the tags 0, 3, 6 and 9.
+    fn pack() -> Vec<u8> {
+        let body = [0x00; 4];
+        let rules: Vec<pack::Rule> = (0..4_u16)
+            .map(|i| pack::Rule {
+                tag: 3 * i,
+                cells: 10 + i,
+                body: &body[..usize::from(i)],
+            })
+            .collect();
+        pack::build(&rules).unwrap()
+    }
+
+    #[test]
+    fn each_pass_asks_for_every_tag() {
+        let asked = asked(&pack());
+        assert_eq!(asked.len(), ASKED as usize);
+        for pass in asked.chunks(4) {
+            let mut tags = pass.to_vec();
+            tags.sort_unstable();
+            assert_eq!(tags, [0, 3, 6, 9]);
+        }
+        let repeated = asked.chunks(4).zip(asked[4..].chunks(4));
+        let repeated = repeated.filter(|(pass, next)| pass == next).count();
+        assert!(repeated < 1_000, "{repeated}");
+    }
+
+    #[test]
+    fn every_copy_finds_each_tag() {
+        for tag in 0..12 {
+            let said = match pack::find(&pack(), tag) {
+                Ok(entry) => [0, entry.cells, entry.offset, entry.length, 0],
+                Err(error) => [error.number() as u16, 0, 0, 0, 0],
+            };
+            for ours in [&peer::FIND, &peer::LOOKUP] {
+                let (pack, asked) = (pack(), vec![tag]);
+                let mut work = Tags { pack, asked, ours };
+                for side in case::both() {
+                    for place in 0..peer::PLACES {
+                        assert_eq!(work.call(side, place), said.map(u32::from), "{tag} {side}");
+                    }
+                }
+            }
+        }
+    }
+}
