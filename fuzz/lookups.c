@@ -1,4 +1,7 @@
-/* Promises of khx_pack_lookup: in a good pack it answers as khx_pack_find; in any bytes it gives an entry of theirs that lies inside, or none. */
+/*
+ * Promises of khx_pack_lookup: of any bytes it gives what the four steps of "The lookup" in docs/CONFORMANCE.md come to, which
+ * are worked here from the page, without the library; in a good pack that is what khx_pack_find gives.
+ */
 #include "packs.h"
 #include "promise.h"
 #include "tries.h"
@@ -9,7 +12,7 @@ static uint16_t number_at(const lent *pack, size_t at)
     return (uint16_t)(low[0] | low[1] << 8);
 }
 
-/* The number by which contents are refused that cannot be read, or 0. */
+/* Step 1: the number by which contents are refused that cannot be read, or 0. */
 static size_t unread(const lent *pack)
 {
     if (pack->size > KHX_PACK_MAX)
@@ -27,42 +30,51 @@ static khx_entry entry_in(const lent *pack, size_t index)
     return entry;
 }
 
-static bool inside(khx_entry entry, const lent *pack)
+static size_t greatest_power_below(size_t count)
 {
-    return (size_t)entry.offset + entry.length <= pack->size;
+    size_t power = 1;
+    while (2 * power < count)
+        power *= 2;
+    return power;
 }
 
-static bool in_its_limits(khx_entry entry)
+static bool not_above(const lent *pack, size_t index, uint16_t tag)
 {
-    return entry.cells <= KHX_CELLS_MAX && entry.length <= KHX_PROGRAM_MAX;
+    return entry_in(pack, index).tag <= tag;
 }
 
-/* The number by which an entry is refused that has the tag, or 0. */
-static size_t refusal_of(khx_entry entry, const lent *pack)
+/* Step 3: the index of the entry that is come to, of so many. */
+static size_t come_to(const lent *pack, size_t entries, uint16_t tag)
 {
-    return !in_its_limits(entry) ? KHX_PACK_ENTRY : !inside(entry, pack) ? KHX_PACK_END : 0;
+    if (entries == 1)
+        return 0;
+    size_t width = greatest_power_below(entries);
+    size_t at = not_above(pack, width, tag) ? entries - width : 0;
+    for (size_t further = width / 2; further > 0; further /= 2)
+        if (not_above(pack, at + further, tag))
+            at += further;
+    return at;
 }
 
-/* Whether the contents have an entry with the tag that would be refused, or given, so. */
-static bool stands_in(khx_entry found, uint16_t tag, const lent *pack)
+/* Step 4. */
+static khx_entry judged(khx_entry entry, const lent *pack, uint16_t tag)
 {
-    for (size_t i = 0; i < number_at(pack, 0); i++) {
-        khx_entry entry = entry_in(pack, i);
-        if (entry.tag == tag && refusal_of(entry, pack) == found.refusal && (found.refusal != 0 || same_entry(found, entry)))
-            return true;
-    }
-    return false;
+    if (entry.tag != tag)
+        return no_entry(KHX_PACK_ABSENT);
+    if (!in_limits(entry))
+        return no_entry(KHX_PACK_ENTRY);
+    return inside(entry, pack) ? entry : no_entry(KHX_PACK_END);
 }
 
-static void promise_given(khx_entry found, uint16_t tag, const lent *pack)
+/* All steps, the second among them. */
+static khx_entry defined(const lent *pack, uint16_t tag)
 {
-    if (found.refusal != 0)
-        promise_no_entry(found, found.refusal);
-    else
-        promise(found.present == 1 && found.tag == tag && in_its_limits(found) && inside(found, pack),
-                "an entry looked up has the tag, is in its limits and inside the bytes");
-    promise(found.refusal == KHX_PACK_ABSENT || stands_in(found, tag, pack),
-            "an entry looked up, or refused by 35 or 34, is one of the contents with the tag");
+    if (unread(pack) != 0)
+        return no_entry(unread(pack));
+    size_t entries = number_at(pack, 0);
+    if (entries == 0)
+        return no_entry(KHX_PACK_ABSENT);
+    return judged(entry_in(pack, come_to(pack, entries, tag)), pack, tag);
 }
 
 static void promise_looked_up(const lent *pack, bool good, uint16_t tag)
@@ -70,10 +82,12 @@ static void promise_looked_up(const lent *pack, bool good, uint16_t tag)
     khx_entry found = khx_pack_lookup(pack->bytes, pack->size, tag);
     notice(LOOKED_UP, found.refusal);
     promise_kept(pack);
-    if (unread(pack) != 0)
-        promise_no_entry(found, unread(pack));
+    if (found.refusal != 0)
+        promise_no_entry(found, found.refusal);
     else
-        promise_given(found, tag, pack);
+        promise(found.present == 1 && found.tag == tag && in_limits(found) && inside(found, pack),
+                "an entry looked up has the tag, is in its limits and inside the bytes");
+    promise(same_entry(found, defined(pack, tag)), "a lookup gives what the four steps of docs/CONFORMANCE.md come to");
     if (good)
         promise(same_entry(found, khx_pack_find(pack->bytes, pack->size, tag)), "in a good pack a tag is looked up as it is found");
 }

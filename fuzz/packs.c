@@ -102,17 +102,33 @@ bool same_entry(khx_entry one, khx_entry other)
            one.offset == other.offset && one.length == other.length;
 }
 
-void promise_no_entry(khx_entry entry, size_t refusal)
+khx_entry no_entry(size_t refusal)
 {
     const khx_entry none = {refusal, 0, 0, 0, 0, 0};
-    promise(same_entry(entry, none), "where there is no entry all is 0 but the refusal, which is the pack's own or 36");
+    return none;
+}
+
+void promise_no_entry(khx_entry entry, size_t refusal)
+{
+    promise(same_entry(entry, no_entry(refusal)),
+            "where there is no entry all is 0 but the refusal, which is the pack's own or 36");
+}
+
+bool in_limits(khx_entry entry)
+{
+    return entry.cells <= KHX_CELLS_MAX && entry.length <= KHX_PROGRAM_MAX;
+}
+
+bool inside(khx_entry entry, const lent *pack)
+{
+    return (size_t)entry.offset + entry.length <= pack->size;
 }
 
 static void promise_entry(khx_entry entry, const lent *pack, size_t entries)
 {
     promise(entry.refusal == 0 && entry.present == 1, "a good pack gives each entry");
-    promise(entry.cells <= KHX_CELLS_MAX && entry.length <= KHX_PROGRAM_MAX, "an entry's numbers are in their limits");
-    promise(entry.offset >= HEAD + FIELDS * entries && (size_t)entry.offset + entry.length <= pack->size,
+    promise(in_limits(entry), "an entry's numbers are in their limits");
+    promise(entry.offset >= HEAD + FIELDS * entries && inside(entry, pack),
             "an entry's body is in the pack, after the contents");
 }
 
@@ -173,13 +189,12 @@ void try_pack_entry(input *from)
 
 static khx_entry first_with(const lent *pack, size_t entries, uint16_t tag)
 {
-    const khx_entry none = {KHX_PACK_ABSENT, 0, 0, 0, 0, 0};
     for (size_t i = 0; i < entries; i++) {
         khx_entry entry = entry_at(pack, i);
         if (entry.tag == tag)
             return entry;
     }
-    return none;
+    return no_entry(KHX_PACK_ABSENT);
 }
 
 static void promise_found(const lent *pack, khx_checked checked, uint16_t tag)

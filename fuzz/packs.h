@@ -14,9 +14,14 @@ lent take_pack(input *from);
 /* What the check says, which writes nothing. */
 khx_checked check_pack(const lent *pack);
 
+/* An answer that has no entry, and this refusal; the promise that an answer is this one. */
+khx_entry no_entry(size_t refusal);
+void promise_no_entry(khx_entry entry, size_t refusal);
+
 bool same_entry(khx_entry one, khx_entry other);
 
-/* The promise that an answer has no entry, and this refusal. */
-void promise_no_entry(khx_entry entry, size_t refusal);
+/* Whether the cells and the length of an entry are in their limits, and whether its body is inside the pack. */
+bool in_limits(khx_entry entry);
+bool inside(khx_entry entry, const lent *pack);
 
 #endif

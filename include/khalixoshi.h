@@ -60,7 +60,7 @@ enum {
     KHX_PACK_SIZE = 31,      /* pack: over size */
     KHX_PACK_TAGS = 32,      /* pack: a tag not above the one before */
     KHX_PACK_OFFSET = 33,    /* pack: wrong offset */
-    KHX_PACK_END = 34,       /* pack: bodies don't end at the pack's end; writer: lengths and bodies differ */
+    KHX_PACK_END = 34,       /* pack: bodies don't end at the pack's end; lookup: one ends past it; writer: lengths and bodies differ */
     KHX_PACK_ENTRY = 35,     /* pack: cells over 1,024 or length over 16,384 */
     KHX_PACK_ABSENT = 36     /* pack: no such tag */
 };

@@ -8,7 +8,7 @@ use mathlib.Core.Bool.{Bool, true, false}
 use lib.Dec.{eqb}
 use borrow.Author.Tests.{eqb-true, eqb-false}
 use Rattle.basis.specs.Pick.{pick, both}
-use Rattle.basis.specs.Answer.{given, refused}
+use Rattle.basis.specs.Answer.{Answer, given, refused}
 
 pub both-left : (a b : Bool) → both a b ≡ true → a ≡ true
 both-left true b h = refl
@@ -37,6 +37,10 @@ same? x y = ⊎-elim (λ h. inl (eqb-true x y h)) (λ h. inr (eqb-false x y h)) 
 -- a refusal gives nothing
 pub refused-given : {A : Type 0} (n : ℕ) (a : A) → refused n ≡ given a → ⊥
 refused-given n a e = let z : _≡_ {A = ℕ} 0 1 = cc in omega arith
+
+-- a refusal has one number
+pub refused-one : {A : Type 0} (m n : ℕ) → _≡_ {A = Answer A} (refused m) (refused n) → m ≡ n
+refused-one m n e = cc
 
 -- what is given is one thing
 pub given-one : {A : Type 0} (a b : A) → given a ≡ given b → a ≡ b

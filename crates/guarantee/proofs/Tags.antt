@@ -1,29 +1,31 @@
 -- Looking up a tag: what request No. 4 promises.
 -- Assumes nothing.
-use Prim.Native.Nat.{ℕ, _<_}
+use Prim.Native.Nat.{ℕ, _+_, _*_, _^_, _≤_}
 use native.Mathlib.Omega.{arith}
 use mathlib.Core.Path.{_≡_, refl, sym, _∙_}
 use mathlib.Core.Bool.{Bool, true, false}
 use mathlib.Core.List.{List, [], _∷_}
 use lib.Dec.{eqb}
 use lib.ListN.{length}
-use borrow.Author.Tests.{lt-ltb, le-ltb, ltb-true, ltb-false}
-use Rattle.basis.specs.Answer.{given, refused}
+use lib.Pow.{pow-mono}
+use borrow.Author.Tests.{lt-ltb, le-ltb}
+use Rattle.basis.specs.Answer.{Answer, given, refused}
 use Rattle.basis.proofs.Tests.{refused-given}
-use Rattle.halving.specs.Halving.{reached}
-use Rattle.halving.proofs.Looks.{reached-decided, rounds-most}
-use Rattle.pack.specs.Read.{countOf, readOf}
+use Rattle.halving.specs.Ways.{followed}
+use Rattle.halving.proofs.Ways.{reaching}
+use Rattle.pack.specs.Contents.{entryAt}
+use Rattle.pack.specs.Read.{readOf}
 use Rattle.pack.specs.Find.{soughtIn, findOf}
-use Rattle.pack.specs.Lookup.{lookupOf}
+use Rattle.pack.specs.Lookup.{keptOf, lookupOf}
 use Rattle.pack.specs.declared.Entry.{Entry}
 use Rattle.pack.proofs.Sounds.{contents-cut}
 use Rattle.pack.proofs.Tags.{lookup-find}
-use Rattle.pack.proofs.Keeps.{lookup-long, lookup-cut, lookup-31, lookup-30, lookup-alike, looked}
+use Rattle.pack.proofs.Keeps.{lookup-long, lookup-cut, lookup-halved, halved-kept, given-held, why}
 use Rattle.rules.specs.Rules.{contentsFor}
 use Rattle.rules.proofs.Forth.{packed-read}
 use Rattle.rules.proofs.Back.{length-body}
 use Rattle.guarantee.specs.Demands.{FindsExactly}
-use Rattle.guarantee.specs.Tags.{SameAsFind, LooksUpExactly, GivesInside, RefusesOnlyNoPack, SevenComparisons}
+use Rattle.guarantee.specs.Tags.{SameAsFind, LooksUpExactly, GivesInside, RefusesFor, RefusesOnlyNoPack, SevenComparisons}
 use Rattle.guarantee.proofs.Demands as demands
 
 pub same-as-find : SameAsFind
@@ -44,17 +46,14 @@ looks-up-exactly s w =
 pub gives-inside : GivesInside
 unfolding GivesInside
 gives-inside s tag e h =
-    let l = looked s tag e h in
-    let k = l .kept in
+    let g = given-held s tag e h in
+    let k = g .1 in
     record {
       asked = k .asked;
       few = k .few;
       short = k .short;
       inside = record { ends = k .ends; whole = length-body s e (k .ends) };
-      index = l .index;
-      entry = sym (k .same);
-      held = l .held;
-      contents = l .whole .room;
+      held = g .0;
     }
 
 -- a pack that is read is refused by 36 alone
@@ -70,25 +69,26 @@ found : (s : List ℕ) (tag : ℕ) (es : List Entry) → readOf s ≡ given es �
 unfolding findOf
 found s tag es r = rw r
 
--- 31 comes from the size alone
-long-only : (s : List ℕ) (tag : ℕ) → lookupOf s tag ≡ refused 31 → 24576 < length s
-long-only s tag h = ltb-true 24576 (length s) (lookup-31 s tag h)
+pub refuses-for : RefusesFor
+unfolding RefusesFor
+refuses-for = why
 
 pub refuses-only-no-pack : RefusesOnlyNoPack
 unfolding RefusesOnlyNoPack findOf readOf
 refuses-only-no-pack = (
   (λ s tag h. (sym (lookup-long s tag h), rw (lt-ltb 24576 (length s) h))),
-  long-only,
   (λ s tag n h k. (sym (lookup-cut s tag h n k), rw (le-ltb 24576 (length s) h, ← contents-cut s n k))),
-  (λ s tag h. let r = lookup-30 s tag h in (ltb-false 24576 (length s) (r .0), r .1)),
   (λ s tag n h other es r. other (sought-refused tag n es (sym (found s tag es r) ∙ sym (lookup-find s es tag r) ∙ h))),
 )
 
 pub seven-comparisons : SevenComparisons
 unfolding SevenComparisons
-seven-comparisons s tag =
-    let n = countOf s in
-    let d = reached-decided 2 8 s tag n in
-    let m = rounds-most n in
-    let f = d .few in
-    (d .places, omega arith, reached 2 8 s tag n, λ t l c a e. lookup-alike s t tag l c (d .same t a) e)
+seven-comparisons m n small some many =
+    let most : 2 ^ m ≤ 64 = pow-mono small in
+    let r = reaching n m some (omega arith) many in (
+      r .way,
+      r .within,
+      λ s tag size h.
+          let way : Answer Entry = keptOf s tag (entryAt s (2 + 8 * followed (r .way) 2 8 s tag)) in
+          sym (lookup-halved s tag size n way h (halved-kept s n tag (2 + 8 * followed (r .way) 2 8 s tag) way (omega arith) (sym (r .comes-to 2 8 s tag)) refl)),
+    )

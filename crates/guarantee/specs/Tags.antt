@@ -1,16 +1,17 @@
 -- Request No. 4, sentence by sentence: "A reader with 64 table kinds scans the contents for each table. Find the entry by halving. The same tag
 -- gives the same part of the pack, or 36." Asking for a tag (`findOf`) keeps its contract and its propositions in Demands, word for word; here is what
 -- is promised of looking one up (`lookupOf`), which halves too and does not check the pack.
-use Prim.Native.Nat.{ℕ, _+_, _*_, _≤_, _<_}
+use Prim.Native.Nat.{ℕ, _+_, _*_, _^_, _≤_, _<_}
 use mathlib.Core.Path.{_≡_}
 use mathlib.Core.List.{List}
-use lib.ListN.{length, getD}
+use lib.ListN.{length}
 use Rattle.basis.specs.Answer.{given, refused}
-use Rattle.basis.specs.Number.{numberAt}
-use Rattle.pack.specs.Contents.{firstOf, entryAt}
-use Rattle.pack.specs.Read.{countOf, heldOf, readOf}
+use Rattle.halving.specs.Ways.{Way, followed, Within}
+use Rattle.pack.specs.Contents.{entryAt}
+use Rattle.pack.specs.Read.{heldOf, readOf}
 use Rattle.pack.specs.Find.{findOf, bodyOf}
-use Rattle.pack.specs.Lookup.{lookupOf}
+use Rattle.pack.specs.Lookup.{keptOf, lookupOf}
+use Rattle.pack.specs.Refusals.{Held, Why}
 use Rattle.pack.specs.declared.Entry.{Entry}
 use Rattle.rules.specs.Rules.{Rule, Among, WellFormed, ruleOf, Inside}
 
@@ -34,34 +35,28 @@ pub record Bounded (s : List ℕ) (tag : ℕ) (e : Entry) : Type 0 where
   pub few : e .cells ≤ 1024
   pub short : e .length ≤ 16384
   pub inside : Inside s e
-  pub index : ℕ
-  pub entry : e ≡ entryAt s (2 + 8 * index)
-  pub held : index < countOf s
-  pub contents : firstOf (countOf s) ≤ length s
+  pub held : Held s e
 
 unfoldable pub GivesInside : Type 0
 GivesInside = (s : List ℕ) (tag : ℕ) (e : Entry) → lookupOf s tag ≡ given e → Bounded s tag e
 
--- 31 and 30 come where asking for the tag gives them by the size and by the count, and nowhere else; and where a lookup refuses by another number
--- than 36, the bytes are no pack (of bytes that are none it may as well give 36, or an entry)
+-- Of any bytes: a refusal is by 31, 30, 36, 35 or 34, and for its cause alone.
+unfoldable pub RefusesFor : Type 0
+RefusesFor = (s : List ℕ) (tag n : ℕ) → lookupOf s tag ≡ refused n → Why s tag n
+
+-- 31 and 30 come wherever asking for the tag gives them, by the size and by the count; and where a lookup refuses by another number than 36, the bytes
+-- are no pack (of bytes that are none it may as well give 36, or an entry)
 unfoldable pub RefusesOnlyNoPack : Type 0
 RefusesOnlyNoPack =
     ((s : List ℕ) (tag : ℕ) → 24576 < length s → (lookupOf s tag ≡ refused 31) × (findOf s tag ≡ refused 31))
-    × ((s : List ℕ) (tag : ℕ) → lookupOf s tag ≡ refused 31 → 24576 < length s)
     × ((s : List ℕ) (tag n : ℕ) → length s ≤ 24576 → heldOf s ≡ refused n → (lookupOf s tag ≡ refused n) × (findOf s tag ≡ refused n))
-    × ((s : List ℕ) (tag : ℕ) → lookupOf s tag ≡ refused 30 → (length s ≤ 24576) × (heldOf s ≡ refused 30))
     × ((s : List ℕ) (tag n : ℕ) → lookupOf s tag ≡ refused n → (n ≡ 36 → ⊥) → (es : List Entry) → readOf s ≡ given es → ⊥)
 
--- the numbers at these places are the same
-abbrev pub Alike : List ℕ → List ℕ → List ℕ → Type 0
-Alike s t places = (i : ℕ) → i < length places → numberAt 2 t (getD places i 0) ≡ numberAt 2 s (getD places i 0)
-
--- "by halving": six tags at most decide which entry is come to, and the answer is told by that entry: other bytes of the same length and count, with
--- the same tags at these places and the same entry there, have the same answer, whatever the rest of them is. With the tag of that entry, which is
--- compared with the one sought, the definition compares seven tags at most.
+-- "by halving": for each count of entries there is one way of comparing, fixed before the bytes and the tag are known, with at most m comparisons
+-- for up to 2 ^ m entries, each with the tag of an entry. The answer is told by the one entry that it comes to, whose tag is compared too: so of 64
+-- entries seven comparisons at most tell it.
 unfoldable pub SevenComparisons : Type 0
 SevenComparisons =
-    (s : List ℕ) (tag : ℕ)
-    → (places : List ℕ) × (length places ≤ 6)
-    × (place : ℕ)
-    × ((t : List ℕ) → length t ≡ length s → countOf t ≡ countOf s → Alike s t places → entryAt t place ≡ entryAt s place → lookupOf t tag ≡ lookupOf s tag)
+    (m n : ℕ) → m ≤ 6 → 0 < n → n ≤ 2 ^ m
+    → (way : Way) × Within n m way
+    × ((s : List ℕ) (tag : ℕ) → length s ≤ 24576 → heldOf s ≡ given n → lookupOf s tag ≡ keptOf s tag (entryAt s (2 + 8 * followed way 2 8 s tag)))

@@ -147,7 +147,7 @@ pub record Reached (start stride : ℕ) (s : List ℕ) (x n : ℕ) : Type 0 wher
   pub inside : index < n
   pub only : Rising (numberIn start stride s) n → (j : ℕ) → j < n → numberIn start stride s j ≡ x → index ≡ j
 
-at-start : (start stride : ℕ) → start + stride * 0 ≡ start
+pub at-start : (start stride : ℕ) → start + stride * 0 ≡ start
 at-start start stride = omega (arith, mul-zero stride)
 
 reaches-one : (start stride : ℕ) (s : List ℕ) (x n : ℕ) → n ≡ 1 → Reached start stride s x n
@@ -159,8 +159,20 @@ reaches-one start stride s x n z = record {
   only = λ rise j l e. omega arith;
 }
 
-reaches-more : (start stride : ℕ) (s : List ℕ) (x n : ℕ) → 1 < n → n ≤ 64 → Reached start stride s x n
+-- halving by index, among more than one
+pub reached-index : (start stride : ℕ) (s : List ℕ) (x n : ℕ) → 1 < n
+    → reached start stride s x n
+    ≡ start + stride * halvedIn (roundsOf n) (numberIn start stride s) x (laterIn (numberIn start stride s) x 0 (n - 2 ^ roundsOf n) (2 ^ roundsOf n)) (2 ^ roundsOf n)
 unfolding reached narrowed
+reached-index start stride s x n h =
+    let f = numberIn start stride s in
+    let whole = 2 ^ roundsOf n in
+    let at = laterIn f x 0 (n - whole) whole in
+    let first : laterOf s x start (start + stride * (n - whole)) (start + stride * whole) ≡ start + stride * at =
+    ap (λ (y : ℕ). laterOf s x y (start + stride * (n - whole)) (start + stride * whole)) (sym (at-start start stride)) ∙ later-place start stride s x 0 (n - whole) whole in
+    rw (lt-ltb 1 n h, first) (halved-place (roundsOf n) start stride s x at whole)
+
+reaches-more : (start stride : ℕ) (s : List ℕ) (x n : ℕ) → 1 < n → n ≤ 64 → Reached start stride s x n
 reaches-more start stride s x n h k =
     let z = sized n h k in
     let f = numberIn start stride s in
@@ -174,11 +186,9 @@ reaches-more start stride s x n h k =
     let at = laterIn f x 0 (n - whole) whole in
     let most : at + whole ≤ n = rw all at (a .most) in
     let c = come rounds f x at whole (z .enough) (z .some) in
-    let first : laterOf s x start (start + stride * (n - whole)) (start + stride * whole) ≡ start + stride * at =
-    ap (λ (y : ℕ). laterOf s x y (start + stride * (n - whole)) (start + stride * whole)) (sym (at-start start stride)) ∙ later-place start stride s x 0 (n - whole) whole in
     record {
       index = halvedIn rounds f x at whole;
-      place = rw (lt-ltb 1 n h, first) (halved-place rounds start stride s x at whole);
+      place = reached-index start stride s x n h;
       inside = let d = c .most in omega arith;
       only = λ rise j l e. let d = a .holds n rise (omega arith) j (omega arith) (omega arith) e in c .only n rise most j (d .0) (d .1) e;
     }

@@ -2,4 +2,4 @@
 pub mod Spans
 pub mod Steps
 pub mod Finds
-pub mod Looks
+pub mod Ways

@@ -54,9 +54,9 @@ fn narrow(
     halve(rounds, stride, s, at, whole, sought)
 }
 
-// The place of the one entry, of n, that can begin with the number that is sought, where n is at most 64.
+// The place of the one entry, of n, that can begin with the number that is sought.
 pub fn reach(start: usize, stride: usize, s: &[u8], n: usize, sought: u16) -> usize
-    requires { ⌜ (2 ≤ stride) × (start + stride * n ≤ length (now s)) ⌝ }
+    requires { ⌜ (2 ≤ stride) × (0 < n) × (n ≤ 64) × (start + stride * n ≤ length (now s)) ⌝ }
     ensures { λ r. ⌜ r ≡ reached start stride (now (s .entry)) sought n ⌝ }
 {
     if 32 < n {

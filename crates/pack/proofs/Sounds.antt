@@ -10,14 +10,11 @@ use lib.Dec.{ltb, eqb}
 use lib.ListN.{length}
 use borrow.Author.Tests.{lt-ltb, le-ltb, eq-eqb, ltb-false, eqb-true}
 use Rattle.basis.specs.Answer.{Answer, given, refused, seen}
-use Rattle.basis.proofs.Tests.{refused-given, given-one}
+use Rattle.basis.proofs.Tests.{refused-given, refused-one, given-one}
 use Rattle.pack.specs.Contents.{firstOf, entriesFrom, endOf}
 use Rattle.pack.specs.Read.{countOf, entriesOf, heldOf, contentsOf, readOf}
 use Rattle.pack.specs.declared.Entry.{Entry}
 use Rattle.pack.proofs.Walks.{length-from}
-
-pub refused-one : {A : Type 0} (m n : ℕ) → _≡_ {A = Answer A} (refused m) (refused n) → m ≡ n
-refused-one m n e = cc
 
 -- the contents are whole
 pub record Whole (s : List ℕ) : Type 0 where

@@ -3,4 +3,5 @@ pub mod Contents
 pub mod Read
 pub mod Find
 pub mod Lookup
+pub mod Refusals
 pub mod Format

@@ -12,8 +12,7 @@ use borrow.Author.Tests.{lt-ltb, le-ltb, ltb-false}
 use Rattle.basis.specs.Pick.{pick}
 use Rattle.basis.specs.Answer.{Answer, given, refused}
 use Rattle.basis.specs.Room.{fitted}
-use Rattle.basis.proofs.Tests.{refused-given, given-one}
-use Rattle.pack.proofs.Sounds.{refused-one}
+use Rattle.basis.proofs.Tests.{refused-given, refused-one, given-one}
 use Rattle.sizes.specs.Sizes.{Enough}
 
 pub data Writes (most : ℕ) (write : ℕ → Answer (List ℕ)) : Type 0 where

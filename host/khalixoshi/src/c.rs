@@ -3,6 +3,8 @@
 //! of a caller holds in each call: a pointer and its count come from one slice, and
 //! what may be written is lent by `&mut`, so it overlaps nothing else.
 
+use std::ptr;
+
 pub const RUNNING: usize = 0;
 pub const HALTED: usize = 1;
 pub const FAULTED: usize = 2;
@@ -192,15 +194,34 @@ pub fn pack_check(pack: &[u8]) -> Checked {
 }
 
 pub fn pack_entry(pack: &[u8], index: usize) -> Entry {
-    unsafe { khx_pack_entry(pack.as_ptr(), pack.len(), index) }
+    number_by_number(&unsafe { khx_pack_entry(pack.as_ptr(), pack.len(), index) })
 }
 
+#[inline]
 pub fn pack_find(pack: &[u8], tag: u16) -> Entry {
-    unsafe { khx_pack_find(pack.as_ptr(), pack.len(), tag) }
+    number_by_number(&unsafe { khx_pack_find(pack.as_ptr(), pack.len(), tag) })
 }
 
+#[inline]
 pub fn pack_lookup(pack: &[u8], tag: u16) -> Entry {
-    unsafe { khx_pack_lookup(pack.as_ptr(), pack.len(), tag) }
+    number_by_number(&unsafe { khx_pack_lookup(pack.as_ptr(), pack.len(), tag) })
+}
+
+/// The same answer, each of the entry's four numbers read by itself. The library has just
+/// written them one by one, and the compiler would read them in one piece of eight bytes,
+/// for which a processor waits until all four have reached its cache: nearly as long as a
+/// lookup takes. Volatile reads are never joined; a reference can always be read.
+#[inline]
+fn number_by_number(answer: &Entry) -> Entry {
+    let read = |number: &u16| unsafe { ptr::read_volatile(number) };
+    Entry {
+        refusal: answer.refusal,
+        present: answer.present,
+        tag: read(&answer.tag),
+        cells: read(&answer.cells),
+        offset: read(&answer.offset),
+        length: read(&answer.length),
+    }
 }
 
 pub fn pack_write(

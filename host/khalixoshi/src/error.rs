@@ -17,7 +17,7 @@ macro_rules! numbers {
         #[derive(Clone, Copy, Debug, PartialEq, Eq, Hash)]
         #[non_exhaustive]
         pub enum Error {
-            $(#[doc = concat!($number, ": ", $meaning, ".")] $name,)*
+            $(#[doc = concat!($number, ": ", $meaning, ".\n\nWhat to do: ", $advice, ".")] $name,)*
             /// A number that this crate does not know, of a later library.
             Other(usize),
         }
@@ -80,13 +80,14 @@ numbers! {
     PackSize = 31, "the pack is over 24,576 bytes", "split it";
     PackTags = 32, "a tag not above the one before", "sort the entries, one for each tag";
     PackOffset = 33, "an entry's offset is not where the bodies so far end", "write the pack again from its parts";
-    PackEnd = 34, "the bodies do not end at the pack's end; in writing the lengths do not sum to the bodies", "the pack is truncated or has bytes too many";
+    PackEnd = 34, "the bodies do not end at the pack's end; in a lookup the entry's body ends past it; in writing the lengths do not sum to the bodies", "the pack is truncated or has bytes too many; check it before you look up in it";
     PackEntry = 35, "an entry of over 1,024 cells or 16,384 bytes", "shorten the rule";
-    PackAbsent = 36, "no entry has the tag; in a lookup of bytes that were not checked, the entry come to has not", "the pack has no rule for this kind of table; check a pack before you look up in it";
+    PackAbsent = 36, "no entry with the tag is found", "the pack has no rule for this kind of table";
 }
 
 impl Error {
     /// An answer's `refusal`: 0 is none.
+    #[inline]
     pub(crate) fn unless_none(refusal: usize) -> Result<(), Error> {
         match refusal {
             0 => Ok(()),

@@ -92,33 +92,36 @@ pub fn entry(pack: &[u8], index: usize) -> Result<Option<Entry>, Error> {
 /// assert_eq!(pack::find(&bytes, 8), Err(Error::PackAbsent));
 /// # Ok::<(), Error>(())
 /// ```
+#[inline]
 pub fn find(pack: &[u8], tag: u16) -> Result<Entry, Error> {
     Entry::found(&c::pack_find(pack, tag))
 }
 
-/// The entry with a tag, of a pack that [`check`] accepted once and that has not changed
-/// since: what [`find`] answers, found by halving, the pack not checked again. [`Checked`] holds
-/// such a pack, and sees to it that it does not change.
+/// The entry with a tag, found by halving, of bytes that nobody has checked: use
+/// [`Checked`], unless you keep the proof yourself that [`check`] accepted these very bytes
+/// and that they have not changed since. Of such a pack this answers what [`find`] does.
 ///
-/// Of any other bytes an entry may come that is in no good pack, or 36 though they have
-/// the tag. So much holds of an entry that comes: it has the tag asked for, at most 1,024
+/// It has an answer for any other bytes too, and is safe. But an entry may come that is in
+/// no good pack, or 36 though they have the tag: it says that the one entry come to has
+/// another. So much holds of an entry that comes: it has the tag asked for, at most 1,024
 /// cells and 16,384 bytes, and they are inside the bytes. Refusals: 31, 30, 36, 35, and
-/// 34 where its body ends past the pack's end; they do not stand in for the check.
+/// 34 where its body ends past their end; they do not stand in for the check.
 ///
 /// ```
 /// use khalixoshi::{pack, Error};
 ///
 /// let mut bytes = [1, 0, 7, 0, 2, 0, 10, 0, 4, 0, 0x85, 0x83, 0x15, 0x00];
 /// assert_eq!(pack::check(&bytes), Ok(1));
-/// assert_eq!(pack::lookup(&bytes, 7), pack::find(&bytes, 7));
-/// assert_eq!(pack::lookup(&bytes, 8), Err(Error::PackAbsent));
+/// assert_eq!(pack::lookup_unchecked(&bytes, 7), pack::find(&bytes, 7));
+/// assert_eq!(pack::lookup_unchecked(&bytes, 8), Err(Error::PackAbsent));
 ///
 /// bytes[8] = 3; // one byte of the body less, and the pack is none any more
 /// assert_eq!(pack::find(&bytes, 7), Err(Error::PackEnd));
-/// assert_eq!(pack::lookup(&bytes, 7)?.length, 3);
+/// assert_eq!(pack::lookup_unchecked(&bytes, 7)?.length, 3);
 /// # Ok::<(), Error>(())
 /// ```
-pub fn lookup(pack: &[u8], tag: u16) -> Result<Entry, Error> {
+#[inline]
+pub fn lookup_unchecked(pack: &[u8], tag: u16) -> Result<Entry, Error> {
     Entry::found(&c::pack_lookup(pack, tag))
 }
 
@@ -146,15 +149,26 @@ pub fn lookup(pack: &[u8], tag: u16) -> Result<Entry, Error> {
 /// # Ok::<(), Error>(())
 /// ```
 ///
-/// While it is there nobody can change a byte:
+/// As long as it is used nobody can change a byte. This does not compile:
 ///
 /// ```compile_fail,E0506
-/// # use khalixoshi::pack::Checked;
+/// # use khalixoshi::{pack::Checked, Error};
 /// let mut bytes = [0, 0];
 /// let pack = Checked::new(&bytes)?;
 /// bytes[0] = 1;
-/// pack.lookup(7)?;
-/// # Ok::<(), khalixoshi::Error>(())
+/// assert_eq!(pack.lookup(7), Err(Error::PackAbsent));
+/// # Ok::<(), Error>(())
+/// ```
+///
+/// The same lines with the write behind the last use do:
+///
+/// ```
+/// # use khalixoshi::{pack::Checked, Error};
+/// let mut bytes = [0, 0];
+/// let pack = Checked::new(&bytes)?;
+/// assert_eq!(pack.lookup(7), Err(Error::PackAbsent));
+/// bytes[0] = 1;
+/// # Ok::<(), Error>(())
 /// ```
 #[derive(Clone, Copy, Debug, PartialEq, Eq)]
 pub struct Checked<'a> {
@@ -170,16 +184,19 @@ impl<'a> Checked<'a> {
     }
 
     /// How many rules it has.
+    #[inline]
     pub fn count(&self) -> usize {
         self.count
     }
 
     /// The entry with a tag. Refusal: 36.
+    #[inline]
     pub fn lookup(&self, tag: u16) -> Result<Entry, Error> {
-        lookup(self.bytes, tag)
+        lookup_unchecked(self.bytes, tag)
     }
 
     /// The rule with a tag, its body a part of the pack. Refusal: 36.
+    #[inline]
     pub fn rule(&self, tag: u16) -> Result<Rule<'a>, Error> {
         let entry = self.lookup(tag)?;
         Ok(Rule {
@@ -202,6 +219,7 @@ impl<'a> Checked<'a> {
 /// assert_eq!(pack::body(&bytes[..12], &entry), [0x85, 0x83]);
 /// # Ok::<(), khalixoshi::Error>(())
 /// ```
+#[inline]
 pub fn body<'a>(pack: &'a [u8], entry: &Entry) -> &'a [u8] {
     let from = pack.get(entry.offset.into()..).unwrap_or_default();
     &from[..from.len().min(entry.length.into())]
@@ -256,10 +274,12 @@ pub fn build(rules: &[Rule]) -> Result<Vec<u8>, Error> {
 
 impl Entry {
     /// The entry that was asked for by its tag, or the refusal.
+    #[inline]
     fn found(answer: &c::Entry) -> Result<Entry, Error> {
         Error::unless_none(answer.refusal).map(|()| Entry::of(answer))
     }
 
+    #[inline]
     fn of(plain: &c::Entry) -> Entry {
         Entry {
             tag: plain.tag,

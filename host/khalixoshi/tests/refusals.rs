@@ -308,9 +308,9 @@ fn lookups_without_a_check() {
         (tagged(&[7, 6]), Error::PackAbsent),
     ];
     for (bytes, error) in refused {
-        assert_eq!(pack::lookup(&bytes, 7), Err(error));
+        assert_eq!(pack::lookup_unchecked(&bytes, 7), Err(error));
     }
-    let offset = |bytes: &[u8]| pack::lookup(bytes, 7).map(|entry| entry.offset);
+    let offset = |bytes: &[u8]| pack::lookup_unchecked(bytes, 7).map(|entry| entry.offset);
     assert_eq!(offset(&tagged(&[7, 7])), Ok(19));
     assert_eq!(offset(&tagged(&[9, 7])), Ok(19));
     assert_eq!(offset(&altered(6, 0)), Ok(0));

@@ -1,6 +1,7 @@
 /*
- * Plain careful C to measure the proved library against: the same rules with every check, written for reading and for
- * a compiler that optimises. Nothing else uses it. A refusal is a number, 0 for none.
+ * Plain careful C to measure the proved library against: the same rules with every check, but for the scan for a tag,
+ * which makes none. Written for reading and for a compiler that optimises. Nothing else uses it. A refusal is a number, 0
+ * for none.
  */
 #ifndef PEER_H
 #define PEER_H

@@ -357,7 +357,7 @@ impl Scanner {
 }
 
 /// The sums of the numbers that some tags are answered with.
-fn sums(tags: &[u16], find: impl Fn(u16) -> [u32; 4]) -> [u32; 4] {
+pub fn sums(tags: &[u16], find: impl Fn(u16) -> [u32; 4]) -> [u32; 4] {
     let mut sums = [0_u32; 4];
     for &tag in tags {
         for (sum, number) in sums.iter_mut().zip(find(tag)) {

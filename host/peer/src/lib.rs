@@ -1,5 +1,5 @@
 //! What `khx bench` times: the functions of the proved library, and plain careful C that
-//! does the same, behind a safe face. A refusal is a number, 0 for none.
+//! gives the same answers, behind a safe face. A refusal is a number, 0 for none.
 //!
 //! Where a loop lies modulo 64 alone moves its time, so build.rs links each function at
 //! four places, and no side is measured at a lucky one.
@@ -8,8 +8,8 @@ mod functions;
 
 use functions::{copies, Copies, Find, List, PackCheck, Read, Run, Scan, Verify, VerifyByCursor};
 pub use functions::{
-    Cursor, Finder, Form, Functions, Lister, Measured, Memmove, Plain, Proved, Reader, Scanner,
-    HALTED,
+    sums, Cursor, Finder, Form, Functions, Lister, Measured, Memmove, Plain, Proved, Reader,
+    Scanner, HALTED,
 };
 
 /// Each function is linked so many times.

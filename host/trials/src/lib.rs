@@ -33,7 +33,7 @@ use maker::Maker;
 use source::Source;
 
 pub use planted::Planted;
-pub use tally::{Kind, Tally, COPIED, NO_CASE};
+pub use tally::{family, Kind, Tally, COPIED, FAMILIES, NO_CASE};
 pub use trial::{described, trial, Difference};
 
 /// One case in so many is large.

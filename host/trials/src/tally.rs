@@ -13,7 +13,7 @@ pub struct Tally {
 }
 
 /// The families of the protocol, in its order.
-const FAMILIES: [&str; 13] = [
+pub const FAMILIES: [&str; 13] = [
     "decode",
     "encode",
     "shape",
@@ -73,13 +73,19 @@ impl Tally {
     }
 }
 
+/// The family of a line by its first word, whether the rest is a case of it or not.
+pub fn family(line: &[u8]) -> Option<&'static str> {
+    let word = line.split(|&byte| byte == b' ').next()?;
+    FAMILIES
+        .into_iter()
+        .find(|family| family.as_bytes() == word)
+}
+
 fn classed(line: &[u8], answer: &str) -> (&'static str, Kind) {
     if answer == BAD_CASE {
         return (NO_CASE, Kind::Good(BAD_CASE));
     }
-    let word = line.split(|&byte| byte == b' ').next().unwrap_or_default();
-    let family = FAMILIES.iter().find(|family| family.as_bytes() == word);
-    match family.copied() {
+    match family(line) {
         None => (COPIED, Kind::Good("as it stands")),
         Some("report") => ("report", report(answer)),
         Some("read") => ("read", read(answer)),

@@ -1,7 +1,11 @@
-//! Both implementations answer alike, and a planted difference is noticed.
+//! Both implementations answer alike, and a planted difference is noticed; a family of
+//! cases can be left out of what is printed.
+
+use std::env;
+use std::process::{Command, Output};
 
 use conform::{answer, Proved, Second};
-use trials::{trial, Cases, Difference, Planted};
+use trials::{family, trial, Cases, Difference, Planted};
 
 const SEED: u64 = 1;
 const COUNT: u64 = 10_000;
@@ -25,9 +29,9 @@ fn noticed(planted: Planted, families: &[&str]) -> Vec<Difference> {
     let found = differences(&planted);
     assert!(!found.is_empty());
     for difference in &found {
-        let line = String::from_utf8_lossy(&difference.line);
-        let family = line.split(' ').next().unwrap_or_default();
-        assert!(families.contains(&family), "{line}");
+        let line = &difference.line;
+        let family = family(line).unwrap_or_default();
+        assert!(families.contains(&family), "{}", line.escape_ascii());
     }
     found
 }
@@ -90,6 +94,53 @@ fn lookups_in_good_packs_are_finds() {
         }
     }
     assert!(asked >= 4_000, "{asked}");
+}
+
+/// The program, under the emulator by which cargo runs programs of another processor.
+fn differ(words: &[&str]) -> Output {
+    let program = env!("CARGO_BIN_EXE_differ");
+    let mut command = match env::var("CARGO_TARGET_X86_64_UNKNOWN_LINUX_GNU_RUNNER") {
+        Ok(emulator) => {
+            let mut command = Command::new(emulator);
+            command.arg(program);
+            command
+        }
+        Err(_) => Command::new(program),
+    };
+    command.args(words).output().unwrap()
+}
+
+/// The lines of its family are not there, and all others are.
+#[test]
+fn a_family_is_left_out() {
+    let all = differ(&["--print", "1", "1000"]).stdout;
+    for left_out in ["lookup", "run"] {
+        let printed = differ(&["--print", "--without", left_out, "1", "1000"]);
+        assert_eq!(printed.status.code(), Some(0));
+        let word = format!("{left_out} ");
+        let kept: Vec<&[u8]> = all
+            .split_inclusive(|&byte| byte == b'\n')
+            .filter(|line| !line.starts_with(word.as_bytes()))
+            .collect();
+        assert!(kept.len() < 950, "{}", kept.len());
+        assert!(printed.stdout == kept.concat());
+    }
+}
+
+/// Of no such family, of none, and where nothing is printed.
+#[test]
+fn what_cannot_be_left_out_is_bad_usage() {
+    let few = ["1", "9"];
+    for options in [
+        &["--print", "--without", "lookups"][..],
+        &["--print", "--without"],
+        &["--without", "lookup"],
+        &["--plant", "lookup", "--without", "lookup"],
+    ] {
+        let output = differ(&[options, &few].concat());
+        assert_eq!(output.status.code(), Some(2), "{options:?}");
+        assert!(output.stdout.is_empty());
+    }
 }
 
 /// The answer of a step without the data.

@@ -79,7 +79,7 @@ impl Engine for Proved {
     }
 
     fn lookup(&self, pack: &[u8], tag: u16) -> Result<Entry, Number> {
-        let found = pack::lookup(pack, tag).map_err(Error::number)?;
+        let found = pack::lookup_unchecked(pack, tag).map_err(Error::number)?;
         Ok(entry(&found))
     }
 

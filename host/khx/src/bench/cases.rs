@@ -3,11 +3,10 @@
 use khalixoshi::pack::{self, Checked};
 use khalixoshi::tables::{Facts, Lending, BUDGET};
 use khalixoshi::{CELLS_MAX, LIST_MAX, PACK_MAX, UNMET};
-use peer::Finder;
 
 use super::case::{self, Answer, Case, Side, Unit, Work};
 use super::programs;
-use super::tags::{Tags, ASKED};
+use super::tags::{Order, Ours, Tags, ASKED};
 
 /// The rules that ship in examples/, and the tags of two of them.
 const RULES: &[u8] = include_bytes!("../../../../examples/fonts.pack");
@@ -22,6 +21,10 @@ const FACTS: Facts = Facts {
     loca_format: 1,
     outlines: 256_584,
 };
+
+/// The library's two ways to find a tag.
+static LOOKUP: Ours = Ours::Copies(&peer::LOOKUP);
+static FIND: Ours = Ours::Copies(&peer::FIND);
 
 /// All cases, in the order in which they are timed.
 pub fn all() -> Vec<Case> {
@@ -117,26 +120,62 @@ pub fn all() -> Vec<Case> {
         tags(
             "tags-64-lookup",
             "lookup: all tags of a pack of 64 rules, checked once, each pass in another order",
-            64,
-            &peer::LOOKUP,
+            (64, Order::Varied),
+            LOOKUP,
+        ),
+        tags(
+            "tags-64-rust",
+            "lookup: the same by pack::Checked of the face for Rust",
+            (64, Order::Varied),
+            Ours::Rust,
         ),
         tags(
             "tags-64-find",
             "find: the same; it checks the pack for each tag",
-            64,
-            &peer::FIND,
+            (64, Order::Varied),
+            FIND,
         ),
         tags(
             "tags-4-lookup",
             "lookup: as tags-64-lookup, a pack of 4 rules",
-            4,
-            &peer::LOOKUP,
+            (4, Order::Varied),
+            LOOKUP,
+        ),
+        tags(
+            "tags-4-rust",
+            "lookup: as tags-64-rust, a pack of 4 rules",
+            (4, Order::Varied),
+            Ours::Rust,
         ),
         tags(
             "tags-4-find",
             "find: as tags-64-find, a pack of 4 rules",
-            4,
-            &peer::FIND,
+            (4, Order::Varied),
+            FIND,
+        ),
+        tags(
+            "rising-64-lookup",
+            "lookup: as tags-64-lookup, each pass in rising order, which the processor learns",
+            (64, Order::Rising),
+            LOOKUP,
+        ),
+        tags(
+            "rising-64-find",
+            "find: the same; it checks the pack for each tag",
+            (64, Order::Rising),
+            FIND,
+        ),
+        tags(
+            "rising-4-lookup",
+            "lookup: as rising-64-lookup, a pack of 4 rules",
+            (4, Order::Rising),
+            LOOKUP,
+        ),
+        tags(
+            "rising-4-find",
+            "find: as rising-64-find, a pack of 4 rules",
+            (4, Order::Rising),
+            FIND,
         ),
         read(
             "read",
@@ -190,13 +229,19 @@ fn verify(name: &'static str, about: &'static str, program: Vec<u8>) -> Case {
     }
 }
 
-fn tags(name: &'static str, about: &'static str, entries: u16, ours: &'static Finder) -> Case {
+/// A pack of so many entries, asked in an order.
+fn tags(
+    name: &'static str,
+    about: &'static str,
+    (entries, order): (u16, Order),
+    ours: Ours,
+) -> Case {
     Case {
         name,
         about,
         sides: case::both(),
         unit: Unit::Tag(ASKED),
-        work: Box::new(Tags::of(full_pack(entries), ours)),
+        work: Box::new(Tags::of(full_pack(entries), order, ours)),
     }
 }
 

@@ -1,27 +1,64 @@
 //! Packs asked for all their tags.
 
-use khalixoshi::pack;
+use khalixoshi::pack::{self, Checked};
 use peer::Finder;
 
 use super::case::{Answer, Side, Work};
 use super::random::Random;
 
-/// So many tags a call asks for. An order that repeats much sooner is learnt by a processor,
-/// which then knows where each scan will end, as it never does in a reader.
+/// So many tags a call asks for. A list that is much shorter is learnt by a processor even
+/// where each pass has another order.
 pub const ASKED: u32 = 65_536;
+
+/// In which order a pack is asked for its tags, in passes over all of them.
+#[derive(Clone, Copy, Debug, PartialEq, Eq)]
+pub enum Order {
+    /// Each pass in another one: a processor cannot learn where a scan will end.
+    Varied,
+    /// Each pass in the pack's own one: a processor learns it.
+    Rising,
+}
+
+/// What the library is asked by.
+#[derive(Clone, Copy)]
+pub enum Ours {
+    /// One of its functions, at each of its places.
+    Copies(&'static Finder),
+    /// Its face for Rust. Of that khx has one copy, whatever the place.
+    Rust,
+}
+
+impl Ours {
+    /// As [`Finder::find`].
+    fn find(self, place: usize, pack: &[u8], tags: &[u16]) -> [u32; 4] {
+        match self {
+            Ours::Copies(finder) => finder.find(place, pack, tags),
+            Ours::Rust => find_by_rust(pack, tags),
+        }
+    }
+}
+
+/// As [`Finder::find`], of a good pack, by the face for Rust: it is checked once.
+fn find_by_rust(pack: &[u8], tags: &[u16]) -> [u32; 4] {
+    let pack = Checked::new(pack).expect("the pack is good");
+    peer::sums(tags, |tag| match pack.lookup(tag) {
+        Ok(entry) => [0, entry.cells, entry.offset, entry.length].map(u32::from),
+        Err(error) => [error.number() as u32, 0, 0, 0],
+    })
+}
 
 /// A pack asked for its tags, one after the other: the library in one of its ways, C by a
 /// scan. The pack is only read.
 pub struct Tags {
     pack: Vec<u8>,
     asked: Vec<u16>,
-    ours: &'static Finder,
+    ours: Ours,
 }
 
 impl Tags {
-    pub fn of(pack: Vec<u8>, ours: &'static Finder) -> Tags {
+    pub fn of(pack: Vec<u8>, order: Order, ours: Ours) -> Tags {
         Tags {
-            asked: asked(&pack),
+            asked: asked(&pack, order),
             pack,
             ours,
         }
@@ -47,14 +84,16 @@ impl Work for Tags {
     }
 }
 
-/// All tags of a pack over and over, each time in another order.
-fn asked(pack: &[u8]) -> Vec<u16> {
+/// All tags of a pack over and over.
+fn asked(pack: &[u8], order: Order) -> Vec<u16> {
     let entries = pack::entries(pack).expect("the pack is good");
     let mut tags: Vec<u16> = entries.iter().map(|entry| entry.tag).collect();
     let mut random = Random(1);
     let mut asked = Vec::new();
     while asked.len() < ASKED as usize {
-        random.shuffle(&mut tags);
+        if order == Order::Varied {
+            random.shuffle(&mut tags);
+        }
         asked.extend(&tags);
     }
     asked
@@ -80,7 +119,7 @@ mod tests {
 
     #[test]
     fn each_pass_asks_for_every_tag() {
-        let asked = asked(&pack());
+        let asked = asked(&pack(), Order::Varied);
         assert_eq!(asked.len(), ASKED as usize);
         for pass in asked.chunks(4) {
             let mut tags = pass.to_vec();
@@ -93,13 +132,20 @@ mod tests {
     }
 
     #[test]
+    fn a_rising_order_is_the_packs_own() {
+        let asked = asked(&pack(), Order::Rising);
+        assert_eq!(asked, [0, 3, 6, 9].repeat(ASKED as usize / 4));
+    }
+
+    #[test]
     fn every_copy_finds_each_tag() {
         for tag in 0..12 {
             let said = match pack::find(&pack(), tag) {
                 Ok(entry) => [0, entry.cells, entry.offset, entry.length, 0],
                 Err(error) => [error.number() as u16, 0, 0, 0, 0],
             };
-            for ours in [&peer::FIND, &peer::LOOKUP] {
+            let [find, lookup] = [&peer::FIND, &peer::LOOKUP].map(Ours::Copies);
+            for ours in [find, lookup, Ours::Rust] {
                 let (pack, asked) = (pack(), vec![tag]);
                 let mut work = Tags { pack, asked, ours };
                 for side in case::both() {

@@ -9,10 +9,10 @@ use std::process::ExitCode;
 use std::time::{Duration, Instant};
 
 use conform::{Engine, Proved, Second};
-use trials::{described, trial, Cases, Difference, Planted};
+use trials::{described, family, trial, Cases, Difference, Planted, FAMILIES};
 
 const HELP: &str = "\
-usage: differ [--plant ERROR | --print] SEED COUNT [FIRST]
+usage: differ [--plant ERROR | --print [--without FAMILY]] SEED COUNT [FIRST]
 
 Makes COUNT cases of the conformance protocol from SEED, the first of them number
 FIRST (0 if it is left out), asks the proved library and the second implementation
@@ -20,11 +20,14 @@ each of them, and compares the answers. Differences are printed with their numbe
 `differ SEED 1 NUMBER` asks one case again. At the end stands a table of the proved
 library's answers.
 
-  --plant ERROR  the second implementation with a planted error: sum, one kind of load
-                 adds its operands modulo 65,536; copy, dcopy reads bytes that it has
-                 written; shape, the row of call-imm8 has its values taken and pushed
-                 exchanged; lookup, halving does not come to the last entry of a pack
-  --print        prints the cases and asks nobody, for `khx conform`
+  --plant ERROR     the second implementation with a planted error: sum, one kind of
+                    load adds its operands modulo 65,536; copy, dcopy reads bytes that
+                    it has written; shape, the row of call-imm8 has its values taken
+                    and pushed exchanged; lookup, halving does not come to the last
+                    entry of a pack
+  --print           prints the cases and asks nobody, for `khx conform`
+  --without FAMILY  leaves out those that begin with this word: lookup is no case of
+                    the published protocol
 
 Exit status: 0 no difference, 1 a difference, 2 bad usage.
 ";
@@ -37,6 +40,7 @@ struct Task {
     numbers: Range<u64>,
     plant: Option<Planted>,
     print: bool,
+    without: Option<&'static str>,
 }
 
 fn main() -> ExitCode {
@@ -47,7 +51,7 @@ fn main() -> ExitCode {
     }
     match task(words) {
         None => {
-            eprintln!("differ: usage: differ [--plant ERROR | --print] SEED COUNT [FIRST]");
+            eprintln!("differ: {}", HELP.lines().next().unwrap_or_default());
             ExitCode::from(2)
         }
         Some(task) if task.print => match print(&task) {
@@ -59,17 +63,15 @@ fn main() -> ExitCode {
 }
 
 fn task(mut words: Vec<String>) -> Option<Task> {
-    let plant = match words.first().map(String::as_str) {
-        Some("--plant") => {
-            let word = words.drain(..words.len().min(2)).nth(1)?;
-            Some(Planted::ALL.into_iter().find(|it| it.name() == word)?)
-        }
-        _ => None,
-    };
-    let print = words.first().map_or(false, |word| word == "--print");
+    let plant = chosen(&mut words, "--plant", &Planted::ALL, Planted::name)?;
+    let print = begins(&words, "--print");
     if print {
         words.remove(0);
     }
+    let without = match print {
+        true => chosen(&mut words, "--without", &FAMILIES, |family| family)?,
+        false => None,
+    };
     let numbers: Option<Vec<u64>> = words.iter().map(|word| word.parse().ok()).collect();
     let (seed, count, first) = match numbers?[..] {
         [seed, count] => (seed, count, 0),
@@ -82,15 +84,37 @@ fn task(mut words: Vec<String>) -> Option<Task> {
         numbers,
         plant,
         print,
+        without,
     })
+}
+
+fn begins(words: &[String], option: &str) -> bool {
+    words.first().map_or(false, |word| word == option)
+}
+
+/// What the word behind an option names, if the words begin with the option; both words
+/// are taken. None where it names none of these.
+fn chosen<T: Copy>(
+    words: &mut Vec<String>,
+    option: &str,
+    these: &[T],
+    name: fn(T) -> &'static str,
+) -> Option<Option<T>> {
+    if !begins(words, option) {
+        return Some(None);
+    }
+    let word = words.drain(..words.len().min(2)).nth(1)?;
+    these.iter().copied().find(|&it| name(it) == word).map(Some)
 }
 
 fn print(task: &Task) -> io::Result<()> {
     let mut output = io::BufWriter::new(io::stdout().lock());
     let cases = Cases::new(task.seed);
-    for number in task.numbers.clone() {
-        output.write_all(&cases.case(number))?;
-        output.write_all(b"\n")?;
+    for case in task.numbers.clone().map(|number| cases.case(number)) {
+        if task.without.is_none() || family(&case) != task.without {
+            output.write_all(&case)?;
+            output.write_all(b"\n")?;
+        }
     }
     output.flush()
 }
