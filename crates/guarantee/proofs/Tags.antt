@@ -20,7 +20,7 @@ use Rattle.pack.specs.Lookup.{keptOf, lookupOf}
 use Rattle.pack.specs.declared.Entry.{Entry}
 use Rattle.pack.proofs.Sounds.{contents-cut}
 use Rattle.pack.proofs.Tags.{lookup-find}
-use Rattle.pack.proofs.Keeps.{lookup-long, lookup-cut, lookup-halved, halved-kept, given-held, why}
+use Rattle.pack.proofs.Keeps.{lookup-long, lookup-cut, lookup-halved, halved-kept, given-held, why, because}
 use Rattle.rules.specs.Rules.{contentsFor}
 use Rattle.rules.proofs.Forth.{packed-read}
 use Rattle.rules.proofs.Back.{length-body}
@@ -71,7 +71,7 @@ found s tag es r = rw r
 
 pub refuses-for : RefusesFor
 unfolding RefusesFor
-refuses-for = why
+refuses-for s tag n = (why s tag n, because s tag n)
 
 pub refuses-only-no-pack : RefusesOnlyNoPack
 unfolding RefusesOnlyNoPack findOf readOf

@@ -40,9 +40,9 @@ pub record Bounded (s : List ℕ) (tag : ℕ) (e : Entry) : Type 0 where
 unfoldable pub GivesInside : Type 0
 GivesInside = (s : List ℕ) (tag : ℕ) (e : Entry) → lookupOf s tag ≡ given e → Bounded s tag e
 
--- Of any bytes: a refusal is by 31, 30, 36, 35 or 34, and for its cause alone.
+-- Of any bytes: a refusal is by 31, 30, 36, 35 or 34, exactly where its cause is there.
 unfoldable pub RefusesFor : Type 0
-RefusesFor = (s : List ℕ) (tag n : ℕ) → lookupOf s tag ≡ refused n → Why s tag n
+RefusesFor = (s : List ℕ) (tag n : ℕ) → (lookupOf s tag ≡ refused n → Why s tag n) × (Why s tag n → lookupOf s tag ≡ refused n)
 
 -- 31 and 30 come wherever asking for the tag gives them, by the size and by the count; and where a lookup refuses by another number than 36, the bytes
 -- are no pack (of bytes that are none it may as well give 36, or an entry)

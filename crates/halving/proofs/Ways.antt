@@ -7,14 +7,13 @@ use mathlib.Core.Bool.{Bool, true, false}
 use mathlib.Core.List.{List}
 use lib.Dec.{ltb}
 use lib.Pow.{pow-mono}
-use borrow.Author.Tests.{ltb-true, ltb-false, lt-ltb, le-ltb}
-use Rattle.basis.specs.Pick.{pick}
+use borrow.Author.Tests.{ltb-true, ltb-false, le-ltb}
 use Rattle.halving.specs.Halving.{roundsOf, reached}
 use Rattle.halving.specs.Ways.{Way, comes, compares, followed, Within}
-use Rattle.halving.proofs.Finds.{halvedIn, laterIn, numberIn, Sized, sized, at-start, reached-index}
+use Rattle.halving.proofs.Finds.{halvedIn, laterIn, numberIn, sized, at-start, reached-index}
 
 -- the comparisons of halving among those left from an index on
-abbrev pub halvedWay : ℕ → ℕ → ℕ → Way
+abbrev halvedWay : ℕ → ℕ → ℕ → Way
 halvedWay zero i left = comes i
 halvedWay (suc more) i left = compares (i + left / 2) (halvedWay more i (left - left / 2)) (halvedWay more (i + left / 2) (left - left / 2))
 

@@ -17,9 +17,9 @@ use Rattle.halving.proofs.Finds.{reaches}
 use Rattle.pack.specs.Contents.{firstOf, entryAt}
 use Rattle.pack.specs.Read.{countOf, heldOf}
 use Rattle.pack.specs.Lookup.{keptOf, halvedOf, lookupOf}
-use Rattle.pack.specs.Refusals.{Held, Why, too-long, contents-cut, no-entries, another-tag, over-cells, over-length, past-end}
+use Rattle.pack.specs.Refusals.{Held, comeTo, Why, too-long, contents-cut, no-entries, another-tag, over-cells, over-length, past-end}
 use Rattle.pack.specs.declared.Entry.{Entry}
-use Rattle.pack.proofs.Sounds.{held-whole, held-bounds, held-thirty}
+use Rattle.pack.proofs.Sounds.{whole-held, held-whole, held-thirty}
 
 -- the entry at a place, its numbers as they are read one after the other
 module _ (s : List ℕ) (at tag found : ℕ) (told : found ≡ numberAt 2 s at) where
@@ -97,29 +97,58 @@ kept-given s tag x e h = go (eqb (x .tag) tag) (ltb 1024 (x .cells)) (ltb 16384 
         let z : x ≡ e = given-one x e (rw (p, q, r, t) at h) in
         (z, record { asked = rw (← z) (eqb-true _ _ p); few = rw (← z) (ltb-false _ _ q); short = rw (← z) (ltb-false _ _ r); ends = rw (← z) (ltb-false _ _ t) })
 
--- a lookup in contents that are not empty comes to one of their entries, and tells what is said of it
-pub record Looked (s : List ℕ) (tag : ℕ) (answer : Answer Entry) : Type 0 where
-  pub come : Entry
-  pub held : Held s come
-  pub kept : keptOf s tag come ≡ answer
+-- what a lookup comes to, of any bytes
+pub data Coming (s : List ℕ) (tag : ℕ) : Type 0 where
+  long : 24576 < length s → Coming s tag
+  cut : length s ≤ 24576 → heldOf s ≡ refused 30 → Coming s tag
+  empty : length s ≤ 24576 → heldOf s ≡ given 0 → Coming s tag
+  entry : Held s (comeTo s tag) → Coming s tag
 
-pub looked : (s : List ℕ) (tag n : ℕ) → length s ≤ 24576 → heldOf s ≡ given n → n ≢ 0 → Looked s tag (lookupOf s tag)
-looked s tag n small h some =
-    let w = held-whole s n h in
-    let b = held-bounds s n h in
-    let r = reaches 2 8 s tag n (omega arith) (b .0) in
-    let at = reached 2 8 s tag n in
-    record {
-      come = entryAt s at;
-      held = record { size = small; count = w .0 .count; room = w .0 .room; index = r .index; few = rw (w .1) (r .inside); entry = ap (entryAt s) (r .place) };
-      kept = lookup-halved s tag small n (keptOf s tag (entryAt s at)) h (halved-kept s n tag at (keptOf s tag (entryAt s at)) some refl refl);
-    }
-
--- why it refuses an entry
-kept-why : (s : List ℕ) (tag n : ℕ) (e : Entry) → Held s e → keptOf s tag e ≡ refused n → Why s tag n
-unfolding keptOf
-kept-why s tag n e held h = go (eqb (e .tag) tag) (ltb 1024 (e .cells)) (ltb 16384 (e .length)) (ltb (length s) (e .offset + e .length)) refl refl refl refl
+coming : (s : List ℕ) (tag : ℕ) → Coming s tag
+coming s tag = go (ltb 24576 (length s)) (heldOf s) refl refl
   where
+    some : (n : ℕ) → length s ≤ 24576 → heldOf s ≡ given n → (n ≡ 0) ⊎ (n ≢ 0) → Coming s tag
+    some n small h (inl z) = empty small (h ∙ ap given z)
+    some n small h (inr z) =
+        let w = held-whole s n h in
+        let e = w .1 in
+        let r = reaches 2 8 s tag (countOf s) (omega arith) (w .0 .count) in
+        entry record { size = small; count = w .0 .count; room = w .0 .room; index = r .index; few = r .inside; entry = ap (entryAt s) (r .place) }
+
+    go : (t : Bool) (a : Answer ℕ) → ltb 24576 (length s) ≡ t → heldOf s ≡ a → Coming s tag
+    go true a p q = long (ltb-true _ _ p)
+    go false (refused k) p q = cut (ltb-false _ _ p) (q ∙ ap refused (held-thirty s k q))
+    go false (given n) p q = some n (ltb-false _ _ p) q (same? n 0)
+
+-- and what it answers then
+pub lookup-empty : (s : List ℕ) (tag : ℕ) → length s ≤ 24576 → heldOf s ≡ given 0 → refused 36 ≡ lookupOf s tag
+lookup-empty s tag small h = lookup-halved s tag small 0 (refused 36) h (halved-none s 0 tag refl)
+
+pub lookup-entry : (s : List ℕ) (tag : ℕ) → Held s (comeTo s tag) → keptOf s tag (comeTo s tag) ≡ lookupOf s tag
+lookup-entry s tag h =
+    let f = h .few in
+    let r = h .room in
+    let w = whole-held s record { head = omega arith; count = h .count; room = h .room } in
+    lookup-halved s tag (h .size) (countOf s) (keptOf s tag (comeTo s tag)) w (halved-kept s (countOf s) tag (reached 2 8 s tag (countOf s)) (keptOf s tag (comeTo s tag)) (omega arith) refl refl)
+
+-- what an entry that is given shows
+pub given-held : (s : List ℕ) (tag : ℕ) (e : Entry) → lookupOf s tag ≡ given e → Held s e × Kept s tag e
+given-held s tag e h = go (coming s tag)
+  where
+    go : Coming s tag → Held s e × Kept s tag e
+    go (long p) = absurd (refused-given 31 e (lookup-long s tag p ∙ h))
+    go (cut p q) = absurd (refused-given 30 e (lookup-cut s tag p 30 q ∙ h))
+    go (empty p q) = absurd (refused-given 36 e (lookup-empty s tag p q ∙ h))
+    go (entry held) = let k = kept-given s tag (comeTo s tag) e (lookup-entry s tag held ∙ h) in (rw (k .0) at held, k .1)
+
+-- why an entry that was come to is refused, and back
+kept-why : (s : List ℕ) (tag n : ℕ) → Held s (comeTo s tag) → keptOf s tag (comeTo s tag) ≡ refused n → Why s tag n
+unfolding keptOf
+kept-why s tag n held h = go (eqb (e .tag) tag) (ltb 1024 (e .cells)) (ltb 16384 (e .length)) (ltb (length s) (e .offset + e .length)) refl refl refl refl
+  where
+    e : Entry
+    e = comeTo s tag
+
     go : (a b c d : Bool) → eqb (e .tag) tag ≡ a → ltb 1024 (e .cells) ≡ b → ltb 16384 (e .length) ≡ c → ltb (length s) (e .offset + e .length) ≡ d → Why s tag n
     go false b c d p q r t = rw (← refused-one 36 n (rw p at h)) (another-tag held (eqb-false _ _ p))
     go true true c d p q r t = rw (← refused-one 35 n (rw (p, q) at h)) (over-cells held (eqb-true _ _ p) (ltb-true _ _ q))
@@ -127,34 +156,26 @@ kept-why s tag n e held h = go (eqb (e .tag) tag) (ltb 1024 (e .cells)) (ltb 163
     go true false false true p q r t = rw (← refused-one 34 n (rw (p, q, r, t) at h)) (past-end held (eqb-true _ _ p) (ltb-false _ _ q) (ltb-false _ _ r) (ltb-true _ _ t))
     go true false false false p q r t = absurd (refused-given n e (sym (rw (p, q, r, t) at h)))
 
--- what a lookup's answer shows, of any bytes
-pub given-held : (s : List ℕ) (tag : ℕ) (e : Entry) → lookupOf s tag ≡ given e → Held s e × Kept s tag e
-unfolding lookupOf
-given-held s tag e h = go (ltb 24576 (length s)) (heldOf s) refl refl
-  where
-    go : (t : Bool) (a : Answer ℕ) → ltb 24576 (length s) ≡ t → heldOf s ≡ a → Held s e × Kept s tag e
-    go true a p q = absurd (refused-given 31 e (rw p at h))
-    go false (refused k) p q = absurd (refused-given k e (rw (p, q) at h))
-    go false (given n) p q = some (same? n 0)
-      where
-        some : (n ≡ 0) ⊎ (n ≢ 0) → Held s e × Kept s tag e
-        some (inl z) = absurd (refused-given 36 e (halved-none s n tag z ∙ (rw (p, q) at h)))
-        some (inr z) =
-            let l = looked s tag n (ltb-false _ _ p) q z in
-            let k = kept-given s tag (l .come) e (l .kept ∙ h) in
-            (rw (k .0) at (l .held), k .1)
-
 pub why : (s : List ℕ) (tag n : ℕ) → lookupOf s tag ≡ refused n → Why s tag n
-unfolding lookupOf
-why s tag n h = go (ltb 24576 (length s)) (heldOf s) refl refl
+why s tag n h = go (coming s tag)
   where
-    go : (t : Bool) (a : Answer ℕ) → ltb 24576 (length s) ≡ t → heldOf s ≡ a → Why s tag n
-    go true a p q = rw (← refused-one 31 n (rw p at h)) (too-long (ltb-true _ _ p))
-    go false (refused k) p q =
-        let thirty = held-thirty s k q in
-        rw (← refused-one k n (rw (p, q) at h), thirty) (contents-cut (ltb-false _ _ p) (q ∙ ap refused thirty))
-    go false (given m) p q = some (same? m 0)
-      where
-        some : (m ≡ 0) ⊎ (m ≢ 0) → Why s tag n
-        some (inl z) = rw (← refused-one 36 n (halved-none s m tag z ∙ (rw (p, q) at h))) (no-entries (ltb-false _ _ p) (q ∙ ap given z))
-        some (inr z) = let l = looked s tag m (ltb-false _ _ p) q z in kept-why s tag n (l .come) (l .held) (l .kept ∙ h)
+    go : Coming s tag → Why s tag n
+    go (long p) = rw (← refused-one 31 n (lookup-long s tag p ∙ h)) (too-long p)
+    go (cut p q) = rw (← refused-one 30 n (lookup-cut s tag p 30 q ∙ h)) (contents-cut p q)
+    go (empty p q) = rw (← refused-one 36 n (lookup-empty s tag p q ∙ h)) (no-entries p q)
+    go (entry held) = kept-why s tag n held (lookup-entry s tag held ∙ h)
+
+over-length-kept : (s : List ℕ) (tag : ℕ) (e : Entry) (t : Bool) → ltb 1024 (e .cells) ≡ t → e .tag ≡ tag → 16384 < e .length → keptOf s tag e ≡ refused 35
+unfolding keptOf
+over-length-kept s tag e true p z h = rw (eq-eqb _ _ z, p)
+over-length-kept s tag e false p z h = rw (eq-eqb _ _ z, p, lt-ltb _ _ h)
+
+pub because : (s : List ℕ) (tag n : ℕ) → Why s tag n → lookupOf s tag ≡ refused n
+unfolding keptOf
+because s tag n (too-long p) = sym (lookup-long s tag p)
+because s tag n (contents-cut p q) = sym (lookup-cut s tag p 30 q)
+because s tag n (no-entries p q) = sym (lookup-empty s tag p q)
+because s tag n (another-tag held z) = sym (lookup-entry s tag held) ∙ rw (ne-eqb _ _ z)
+because s tag n (over-cells held z h) = sym (lookup-entry s tag held) ∙ rw (eq-eqb _ _ z, lt-ltb _ _ h)
+because s tag n (over-length held z h) = sym (lookup-entry s tag held) ∙ over-length-kept s tag (comeTo s tag) (ltb 1024 (comeTo s tag .cells)) refl z h
+because s tag n (past-end held z few short h) = sym (lookup-entry s tag held) ∙ rw (eq-eqb _ _ z, le-ltb _ _ few, le-ltb _ _ short, lt-ltb _ _ h)

@@ -4,6 +4,7 @@ use mathlib.Core.Path.{_≡_}
 use mathlib.Core.List.{List}
 use lib.ListN.{length}
 use Rattle.basis.specs.Answer.{given, refused}
+use Rattle.halving.specs.Halving.{reached}
 use Rattle.pack.specs.Contents.{firstOf, entryAt}
 use Rattle.pack.specs.Read.{countOf, heldOf}
 use Rattle.pack.specs.declared.Entry.{Entry}
@@ -17,11 +18,16 @@ pub record Held (s : List ℕ) (e : Entry) : Type 0 where
   pub few : index < countOf s
   pub entry : e ≡ entryAt s (2 + 8 * index)
 
+-- the one that halving comes to
+abbrev pub comeTo : List ℕ → ℕ → Entry
+comeTo s tag = entryAt s (reached 2 8 s tag (countOf s))
+
 pub data Why (s : List ℕ) (tag : ℕ) : ℕ → Type 0 where
   too-long : 24576 < length s → Why s tag 31
   contents-cut : length s ≤ 24576 → heldOf s ≡ refused 30 → Why s tag 30
   no-entries : length s ≤ 24576 → heldOf s ≡ given 0 → Why s tag 36
-  another-tag : {e : Entry} → Held s e → (e .tag ≡ tag → ⊥) → Why s tag 36
-  over-cells : {e : Entry} → Held s e → e .tag ≡ tag → 1024 < e .cells → Why s tag 35
-  over-length : {e : Entry} → Held s e → e .tag ≡ tag → 16384 < e .length → Why s tag 35
-  past-end : {e : Entry} → Held s e → e .tag ≡ tag → e .cells ≤ 1024 → e .length ≤ 16384 → length s < e .offset + e .length → Why s tag 34
+  another-tag : Held s (comeTo s tag) → (comeTo s tag .tag ≡ tag → ⊥) → Why s tag 36
+  over-cells : Held s (comeTo s tag) → comeTo s tag .tag ≡ tag → 1024 < comeTo s tag .cells → Why s tag 35
+  over-length : Held s (comeTo s tag) → comeTo s tag .tag ≡ tag → 16384 < comeTo s tag .length → Why s tag 35
+  past-end : Held s (comeTo s tag) → comeTo s tag .tag ≡ tag → comeTo s tag .cells ≤ 1024 → comeTo s tag .length ≤ 16384
+      → length s < comeTo s tag .offset + comeTo s tag .length → Why s tag 34
