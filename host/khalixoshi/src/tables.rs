@@ -450,8 +450,8 @@ impl fmt::Display for Why {
                 write!(f, "it halted with {depth} values on the stack, not one")
             }
             Why::Outside { start, length } => {
-                let has = format_args!("and the table has {length}");
-                write!(f, "it asks for bytes from {start} on, {has}")
+                write!(f, "it asks for bytes from {start} on, ")?;
+                write!(f, "and the table has {length}")
             }
             Why::Length => f.write_str("the table is over 4,294,967,295 bytes"),
             Why::Unmarked => f.write_str("the data does not begin with the mark"),
