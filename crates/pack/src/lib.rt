@@ -118,7 +118,7 @@ fn held(pack: &[u8]) -> Checked
 }
 
 // Where the bodies of a pack end by its contents.
-fn contents_end(pack: &[u8]) -> Bodies
+pub fn contents_end(pack: &[u8]) -> Bodies
     ensures { λ r. ⌜ bodiesAnswer r ≡ contentsOf (now (pack .entry)) ⌝ }
 {
     let entries = held(pack);

@@ -3,6 +3,5 @@ pub mod Entries
 pub mod Reports
 pub mod Writes
 pub mod Answers
-pub mod Addresses
 pub mod Numbers
 pub mod Sample

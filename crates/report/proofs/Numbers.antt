@@ -1,4 +1,4 @@
--- Every number that a report shows is below 100, so that its two digits are all of it; and so are the four of an address.
+-- Every number by which a pack is refused is below 100, so that its two digits in the report are all of it.
 -- Assumes nothing.
 use Prim.Native.Nat.{ℕ, _+_, _<_, _≤_}
 use native.Mathlib.Omega.{arith}
@@ -12,17 +12,9 @@ use borrow.Author.Tests.{ltb-false}
 use Rattle.basis.specs.Pick.{pick}
 use Rattle.basis.specs.Answer.{Answer, given, refused}
 use Rattle.basis.proofs.Tests.{refused-given}
-use Rattle.paths.specs.Walk.{Walked, accepted, refused as broken}
-use Rattle.look.specs.Look.{lookOf}
-use Rattle.meeting.specs.Clash.{twoDepths}
-use Rattle.verifier.specs.Verify.{names, nameless, walkOf, onWalk, verifyOf}
-use Rattle.verifier.proofs.Numbers.{walk-number}
 use Rattle.pack.specs.Contents.{firstOf, refusalOf, endOf}
 use Rattle.pack.specs.Read.{countOf, entriesOf, closedOf, contentsOf, readOf}
-use Rattle.pack.specs.Find.{bodyOf}
 use Rattle.pack.specs.declared.Entry.{Entry}
-use Rattle.report.specs.Report.{judgedOf}
-use Rattle.report.proofs.Addresses.{walk-near}
 
 -- a refusal's number is below 100
 pub record Low {A : Type 0} (a : Answer A) : Type 0 where
@@ -67,35 +59,3 @@ read-low s =
     (low-pick (ltb 64 (countOf s)) _ _ (low-refused 30 (omega arith))
     (low-pick (ltb (length s) (firstOf (countOf s))) _ _ (low-refused 30 (omega arith))
     (end-low 0 (firstOf (countOf s)) (entriesOf s))))))
-
--- programs
-pub walk-low : (program : List ℕ) (cells k a : ℕ) → length program ≤ 16384 → walkOf program cells ≡ broken k a → k < 100
-walk-low program cells k a s e = ⊎-elim (λ h. omega (arith, h .1)) (λ h. omega (arith, h .1)) (walk-number program cells s k a e)
-
--- the number and the address of an entry's line
-pub judged-low : (pack : List ℕ) (e : Entry) (k a : ℕ) → judgedOf pack e ≡ names k a → (k < 100) × (a ≤ length (bodyOf pack e))
-unfolding judgedOf verifyOf
-judged-low pack e k a h = by (ltb 16384 (length program)) (ltb 1024 (e .cells)) (eqb (length depths) (length program)) refl h
-  where
-    program : List ℕ
-    program = bodyOf pack e
-
-    depths : List ℕ
-    depths = replicate (length program) 65535
-
-    walked : length program ≤ 16384 → (w : Walked) → walkOf program (e .cells) ≡ w → onWalk (length program) w .0 ≡ names k a → (k < 100) × (a ≤ length program)
-    walked s (accepted ms) p q = absurd (let z : _≡_ {A = ℕ} 0 1 = cc in omega arith)
-    walked s (broken j b) p q =
-        let y : j ≡ k = cc in
-        let z : b ≡ a = cc in
-        let l = walk-low program (e .cells) j b s p in
-        let m = walk-near twoDepths (lookOf program (e .cells)) (length program) j b p in
-        (omega arith, omega arith)
-
-    by : (t u v : Bool) → ltb 16384 (length program) ≡ t
-        → pick t (nameless 20, depths) (pick u (nameless 22, depths) (pick v (onWalk (length program) (walkOf program (e .cells))) (nameless 23, depths))) .0 ≡ names k a
-        → (k < 100) × (a ≤ length program)
-    by true u v l q = absurd (let z : _≡_ {A = ℕ} 0 1 = cc in omega arith)
-    by false true v l q = absurd (let z : _≡_ {A = ℕ} 0 1 = cc in omega arith)
-    by false false true l q = walked (ltb-false 16384 (length program) l) (walkOf program (e .cells)) refl q
-    by false false false l q = absurd (let z : _≡_ {A = ℕ} 0 1 = cc in omega arith)

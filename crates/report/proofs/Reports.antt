@@ -15,8 +15,10 @@ use Rattle.pack.proofs.Sounds.{refused-seen}
 use Rattle.text.specs.Put.{Put}
 use Rattle.text.proofs.Puts.{put-none, put-append}
 use Rattle.verdicts.specs.Line.{lineOf, packLineOf}
-use Rattle.report.specs.Report.{judgedOf, linesOf, reportIn, reportOf, laidOver, allLaid, mapIn}
-use Rattle.report.proofs.Entries.{there, past, good-there}
+use Rattle.rulings.specs.Rulings.{judgedOf}
+use Rattle.rulings.proofs.Entries.{good-there}
+use Rattle.report.specs.Report.{linesOf, reportIn, reportOf, laidOver, allLaid, mapIn}
+use Rattle.report.proofs.Entries.{there, past}
 
 -- what is left of the lines, and of the map's changes, at the entry with an index
 abbrev pub linesFrom : List ℕ → ℕ → Answer (List Entry) → List ℕ

@@ -15,7 +15,8 @@ use Rattle.pack.specs.Contents.{entryAt, refusalOf}
 use Rattle.pack.specs.Read.{entriesOf, contentsOf, readOf}
 use Rattle.text.specs.Text.{bytes, digitOf}
 use Rattle.verdicts.specs.Line.{decimalOf, refusedOf, saidOf, lineOf, packLineOf}
-use Rattle.report.specs.Report.{judgedOf, reportOf}
+use Rattle.rulings.specs.Rulings.{judgedOf}
+use Rattle.report.specs.Report.{reportOf}
 
 -- one rule with tag 7 and the program of M1
 abbrev ruleOf : ℕ → List ℕ

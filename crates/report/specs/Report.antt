@@ -1,7 +1,7 @@
 -- What the report of a pack says, and what writing it into a room answers and leaves in the depth map.
 use Prim.Native.Nat.{ℕ}
 use mathlib.Core.List.{List, [], _∷_, _++_}
-use lib.ListN.{length, take, drop, replicate}
+use lib.ListN.{length, take, drop}
 use lib.Dec.{ltb}
 use Rattle.basis.specs.Pick.{pick}
 use Rattle.basis.specs.Answer.{Answer, given, refused}
@@ -9,18 +9,10 @@ use Rattle.basis.specs.Room.{fitted}
 use Rattle.pack.specs.Read.{readOf}
 use Rattle.pack.specs.Find.{bodyOf}
 use Rattle.pack.specs.declared.Entry.{Entry}
-use Rattle.verifier.specs.Verify.{Judged, Verified, verifyOf}
+use Rattle.rulings.specs.Rulings.{verifiedIn, judgedOf}
 use Rattle.verdicts.specs.Line.{lineOf, packLineOf}
 use Rattle.report.specs.declared.Reported.{Reported}
 use Rattle.report.specs.declared.Reported.the-variants.{Written, Refused}
-
--- the verifier's answer for an entry's program and cells, and the map that it leaves
-abbrev pub verifiedIn : List ℕ → Entry → List ℕ → Verified
-verifiedIn pack e depths = verifyOf (bodyOf pack e) (e .cells) depths
-
--- its answer over a map as long as the program, "all .. map cells at 65,535"
-unfoldable pub judgedOf : List ℕ → Entry → Judged
-judgedOf pack e = verifiedIn pack e (replicate (length (bodyOf pack e)) 65535) .0
 
 -- "`TTTT accepted` or `TTTT refused N at AAAA` for each entry"
 abbrev pub linesOf : List ℕ → List Entry → List ℕ

@@ -8,7 +8,8 @@ ghost use Rattle.text.specs.Put.{Put};
 ghost use Rattle.pack.specs.Read.{readOf};
 ghost use Rattle.pack.specs.Find.{bodyOf};
 ghost use Rattle.verdicts.specs.Line.{lineOf};
-ghost use Rattle.report.specs.Report.{judgedOf, laidOver, reportOf, mapIn, writeOf, mapOf, reportedAnswer};
+ghost use Rattle.rulings.specs.Rulings.{judgedOf};
+ghost use Rattle.report.specs.Report.{laidOver, reportOf, mapIn, writeOf, mapOf, reportedAnswer};
 use pack::Entry;
 use pack::Listed;
 

@@ -27,7 +27,8 @@ use Rattle.rules.specs.Rules.{Rule, Admissible, bodiesOf, contentsFor, packed, 
 use Rattle.rules.proofs.Kept.{Kept, nil, cons, kept-rising, kept-each, length-packed}
 use Rattle.rules.proofs.Forth.{packed-read, packed-rules}
 use Rattle.rules.proofs.Inside.{count-most}
-use Rattle.report.specs.Report.{judgedOf, linesOf, reportIn, reportOf, writeOf}
+use Rattle.rulings.specs.Rulings.{judgedOf}
+use Rattle.report.specs.Report.{linesOf, reportIn, reportOf, writeOf}
 use Rattle.sizes.proofs.Rooms.{Writes, early, late}
 
 lines-most : (pack : List ℕ) (es : List Entry) → length (linesOf pack es) ≤ 24 * length es

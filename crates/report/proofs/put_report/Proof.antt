@@ -6,7 +6,7 @@ use mathlib.Core.Path.{_≡_, refl, sym, ap, _∙_}
 use lib.ListN.{length}
 use denote.Ref.{now}
 use Rattle.pack.specs.Read.{listedAnswer}
-use Rattle.report.specs.Report.{judgedOf}
+use Rattle.rulings.specs.Rulings.{judgedOf}
 use Rattle.verdicts.proofs.Lines.{length-line, length-pack-line}
 use Rattle.report.proofs.Reports.{Left, left-start, entered, left-next, left-past, left-alone, left-refused}
 use borrow.Author.Needs.{needs}

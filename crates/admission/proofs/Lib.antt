@@ -1,0 +1,3 @@
+-- The laws of `admission`.
+pub mod Tests
+pub mod Fits

@@ -1,0 +1,5 @@
+-- The definitions of `admission`.
+pub mod Verdicts
+pub mod Numbers
+pub mod Admission
+pub mod Fit

@@ -1,0 +1,3 @@
+-- The laws of `arrival`.
+pub mod Bytes
+pub mod Runs

@@ -1,0 +1,2 @@
+-- The definitions of `arrival`.
+pub mod Plain

@@ -1,0 +1,2 @@
+-- The laws of `intake`.
+pub mod Chunks

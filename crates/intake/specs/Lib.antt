@@ -1,0 +1,2 @@
+-- The definitions of `intake`.
+pub mod Idle

@@ -1,0 +1,2 @@
+-- The definitions of `rulings`.
+pub mod Rulings

@@ -1,0 +1,2 @@
+-- The laws of `settling`.
+pub mod Settles

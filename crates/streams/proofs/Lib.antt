@@ -1,0 +1,5 @@
+-- The theorems of `streams`, and their laws.
+pub mod Kept
+pub mod Judging
+pub mod Coming
+pub mod Closing

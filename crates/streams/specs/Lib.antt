@@ -1,0 +1,3 @@
+-- The definitions of `streams`.
+pub mod Told
+pub mod Stands
