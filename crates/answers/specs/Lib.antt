@@ -4,3 +4,4 @@ pub mod Instructions
 pub mod Runs
 pub mod Verdicts
 pub mod Packs
+pub mod Admissions

@@ -79,3 +79,13 @@ pub struct KhxEntry {
     pub offset: u16,
     pub length: u16,
 }
+
+// What an admission answers: whether it is closed, how many programs have their verdict, and what refuses the pack whatever follows, 0 for
+// nothing; all 0 where the memory is too short or the numbers are none that an admission has.
+#[repr(C)]
+pub struct KhxAdmitted {
+    pub refusal: usize,
+    pub closed: usize,
+    pub verdicts: usize,
+    pub lost: usize,
+}
