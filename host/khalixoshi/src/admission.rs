@@ -268,3 +268,74 @@ fn ruling(cells: &[u16]) -> Ruling {
         verdict: Refused::unless_none(cells[1].into(), cells[2].into()),
     }
 }
+
+#[cfg(test)]
+mod tests {
+    use super::*;
+
+    /// Numbers that no admission has: each a little outside what they may be.
+    const DAMAGED: [[usize; NUMBERS]; 12] = [
+        [0; NUMBERS],
+        [24_578, 2, 0, 0, 0, 0, 0, 0],
+        [0, 1, 0, 0, 0, 0, 0, 0],
+        [0, 515, 0, 0, 0, 0, 0, 0],
+        [600, 514, 65, 0, 0, 0, 0, 0],
+        [600, 514, 64, 0, 65, 0, 0, 0],
+        [600, 514, 64, 0, 0, 16_385, 0, 0],
+        [600, 514, 64, 0, 0, 0, 29, 0],
+        [600, 514, 64, 0, 0, 0, 36, 0],
+        [600, 514, 64, 0, 1, 0, 30, 0],
+        [600, 514, 64, 0, 0, 0, 0, 2],
+        [1, 2, 1, 0, 0, 0, 0, 0],
+    ];
+
+    /// It has no answer but its refusal, and nothing is written.
+    #[test]
+    fn damaged() {
+        for numbers in DAMAGED {
+            let mut admission = Admission {
+                numbers,
+                ..Admission::new()
+            };
+            let damaged = Error::AdmissionDamaged;
+            assert_eq!(admission.feed(&[0, 0]), Err(damaged));
+            assert_eq!(admission.close(), Err(damaged));
+            assert_eq!(admission.answer(), Answer::Closed(Err(damaged)));
+            assert_eq!((admission.verdicts().count(), admission.lost()), (0, None));
+            assert_eq!(admission.numbers, numbers);
+            assert_eq!(admission.contents[..2], [0, 0]);
+        }
+    }
+
+    /// Each memory by one too short, before anything else is looked at.
+    #[test]
+    fn short_of_memory() {
+        let lengths = [
+            NUMBERS,
+            CONTENTS_MAX,
+            PROGRAM_MAX,
+            PROGRAM_MAX,
+            VERDICT_CELLS,
+        ];
+        for short in 0..=lengths.len() {
+            let mut lent = Admission::new();
+            let length = |place: usize| lengths[place] - usize::from(place == short);
+            let answer = c::admit_chunk(
+                &mut lent.numbers[..length(0)],
+                &[0],
+                &mut lent.contents[..length(1)],
+                &mut lent.body[..length(2)],
+                &mut lent.map[..length(3)],
+                &mut lent.verdicts[..length(4)],
+            );
+            let refusal = if short < lengths.len() { 90 } else { 0 };
+            assert_eq!(answer.refusal, refusal, "{short}");
+            assert_eq!(lent.numbers[0], usize::from(short == lengths.len()));
+        }
+        let mut numbers = [0; NUMBERS - 1];
+        assert_eq!(c::admit_start(&mut numbers).refusal, 90);
+        assert_eq!(c::admit_close(&mut numbers).refusal, 90);
+        assert_eq!(c::admit_ask(&numbers).refusal, 90);
+        assert_eq!(numbers, [0; NUMBERS - 1]);
+    }
+}
