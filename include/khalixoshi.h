@@ -28,10 +28,15 @@ extern "C" {
 #define KHX_INSTRUCTION_MAX 9u       /* bytes of an instruction */
 #define KHX_PACK_MAX 24576u          /* bytes of a pack */
 #define KHX_ENTRIES_MAX 64u          /* entries of a pack */
+#define KHX_CONTENTS_MAX 514u        /* bytes of a pack's contents: 2, and 8 for each of 64 entries */
 
 /* Rooms that are always enough, none of them a byte too large. */
 #define KHX_LIST_MAX 278528u         /* bytes of a listing: 17 for each byte of the program */
 #define KHX_REPORT_MAX 1536u         /* bytes of a report: 24 for each of 64 lines */
+
+/* What an admission is lent, beside the contents, a body and its map. */
+#define KHX_ADMISSION_NUMBERS 8u     /* numbers of an admission */
+#define KHX_VERDICT_CELLS 192u       /* cells of its verdicts: 3 for each of 64 programs */
 
 /* A cell of a depth map whose address no path meets. */
 #define KHX_UNMET 65535u
@@ -62,7 +67,10 @@ enum {
     KHX_PACK_OFFSET = 33,    /* pack: wrong offset */
     KHX_PACK_END = 34,       /* pack: bodies don't end at the pack's end; lookup: one ends past it; writer: lengths and bodies differ */
     KHX_PACK_ENTRY = 35,     /* pack: cells over 1,024 or length over 16,384 */
-    KHX_PACK_ABSENT = 36     /* pack: no such tag */
+    KHX_PACK_ABSENT = 36,    /* pack: no such tag */
+    KHX_CLOSED = 37,         /* admission: a chunk or a second close after the close */
+    KHX_ADMISSION_MEMORY = 90,   /* admission: a memory lent is shorter than stated */
+    KHX_ADMISSION_DAMAGED = 91   /* admission: its numbers are none that one has: not begun, or written over */
 };
 
 /* A machine's status. */
@@ -153,6 +161,31 @@ typedef struct khx_entry {
     uint16_t offset;
     uint16_t length;
 } khx_entry;
+
+/*
+ * How an admission stands: by 90 and 91 all else is 0, by any other refusal it is told as without one. `closed` is 1 after the
+ * close and 0 before it. `verdicts` is how many programs have their verdict, at most KHX_ENTRIES_MAX: provisional ones before the
+ * close, final ones after it, and none of a pack that is refused or lost. Where `lost` is not 0 the pack is refused whatever
+ * follows, by this number, or by 31 if it comes to over KHX_PACK_MAX bytes: a host may stop there.
+ */
+typedef struct khx_admitted {
+    size_t refusal;
+    size_t closed;
+    size_t verdicts;
+    size_t lost;
+} khx_admitted;
+
+/*
+ * The memories of an admission in one: some 50 KB, so not for a small stack. khx_admission_start begins it; memory of zeros is
+ * none, and is refused by 91.
+ */
+typedef struct khx_admission {
+    size_t numbers[KHX_ADMISSION_NUMBERS];
+    uint8_t contents[KHX_CONTENTS_MAX];
+    uint8_t body[KHX_PROGRAM_MAX];
+    uint16_t map[KHX_PROGRAM_MAX];
+    uint16_t verdicts[KHX_VERDICT_CELLS];
+} khx_admission;
 
 /* The instruction at an address of a program. Refusals: 20, 1, 2, 3. */
 khx_decoded khx_decode(const uint8_t *program, size_t program_length, size_t at);
@@ -245,6 +278,88 @@ khx_written khx_pack_write(const uint16_t *tags, size_t tags_count, const uint16
  */
 khx_written khx_report(const uint8_t *pack, size_t pack_length, uint16_t *map, size_t map_length, uint8_t *room,
                        size_t room_length);
+
+/*
+ * A pack admitted while it comes: it is handed in chunk by chunk, each of any length, 0 too, and then closed. It is never held
+ * whole: its contents are, and one body at a time. Wherever it was cut, the close answers as khx_pack_check does of all the
+ * bytes, and each program has the verdict that khx_verify gives it for the cells of its entry. Before the close the verdicts are
+ * provisional: a program has its own once its last byte is in, but what follows may still refuse the pack, and a refused pack has
+ * none. Let no program run before the close.
+ *
+ * An admission is five memories. The host lends the same ones at each call, and writes nothing there from the start to the last
+ * use of a verdict:
+ *
+ *   numbers    KHX_ADMISSION_NUMBERS    all that it knows; khx_admit_start begins it
+ *   contents   KHX_CONTENTS_MAX bytes   the pack's contents, as far as they have come
+ *   body       KHX_PROGRAM_MAX bytes    the program that is under way, as far as it has come
+ *   map        KHX_PROGRAM_MAX cells    each program is verified over it
+ *   verdicts   KHX_VERDICT_CELLS        three for each program, in the pack's order: its tag, then `refusal` and `at` of its verdict
+ *
+ * All but the numbers may hold anything at the start. Longer memories are taken, and nothing past these sizes is touched. Do not
+ * copy one that is open: a copy goes on as if the close had not been, and nothing here tells it from the first.
+ */
+
+/* Begins an admission: writes the eight numbers, and touches nothing else. Refusal: 90. */
+khx_admitted khx_admit_start(size_t *numbers, size_t numbers_length);
+
+/*
+ * Takes the next bytes of the pack, which may go away afterwards. It writes over numbers, contents, body, map and verdicts. No
+ * pack is refused here: that comes with the close, and `lost` may tell it before. Refusals: 90, 91, 37, of a chunk of no bytes
+ * too; none changes anything.
+ */
+khx_admitted khx_admit_chunk(size_t *numbers, size_t numbers_length, const uint8_t *chunk, size_t chunk_length,
+                             uint8_t *contents, size_t contents_length, uint8_t *body, size_t body_length,
+                             uint16_t *map, size_t map_length, uint16_t *verdicts, size_t verdicts_length);
+
+/*
+ * Closes an admission: the pack has come to its end. Of a good one `refusal` is 0 and `verdicts` its count of entries. It writes
+ * the numbers alone. Refusals: 90, 91, 37, which change nothing: the first close's answer stays; then the pack's own, as
+ * khx_pack_check, by which the admission is closed as well, without a verdict.
+ */
+khx_admitted khx_admit_close(size_t *numbers, size_t numbers_length);
+
+/* How an admission stands; nothing is written. Refusals: 90, 91, then after the close the first close's; before it none. */
+khx_admitted khx_admit_ask(const size_t *numbers, size_t numbers_length);
+
+/* The four over the memories in one. */
+static inline khx_admitted khx_admission_start(khx_admission *admission)
+{
+    return khx_admit_start(admission->numbers, KHX_ADMISSION_NUMBERS);
+}
+
+static inline khx_admitted khx_admission_chunk(khx_admission *admission, const uint8_t *chunk, size_t chunk_length)
+{
+    return khx_admit_chunk(admission->numbers, KHX_ADMISSION_NUMBERS, chunk, chunk_length, admission->contents,
+                           KHX_CONTENTS_MAX, admission->body, KHX_PROGRAM_MAX, admission->map, KHX_PROGRAM_MAX,
+                           admission->verdicts, KHX_VERDICT_CELLS);
+}
+
+static inline khx_admitted khx_admission_close(khx_admission *admission)
+{
+    return khx_admit_close(admission->numbers, KHX_ADMISSION_NUMBERS);
+}
+
+static inline khx_admitted khx_admission_ask(const khx_admission *admission)
+{
+    return khx_admit_ask(admission->numbers, KHX_ADMISSION_NUMBERS);
+}
+
+/* The tag of the program whose verdict is at an index, the first being 0; 0 where the index is not below `verdicts` of the answer. */
+static inline uint16_t khx_admission_tag(const khx_admission *admission, size_t index)
+{
+    return index < khx_admission_ask(admission).verdicts ? admission->verdicts[3 * index] : (uint16_t)0;
+}
+
+/* The verdict at an index. Refusals: 91 where the index is not below `verdicts` of the answer; then the program's own. */
+static inline khx_verdict khx_admission_verdict(const khx_admission *admission, size_t index)
+{
+    khx_verdict verdict = {KHX_ADMISSION_DAMAGED, 0};
+    if (index < khx_admission_ask(admission).verdicts) {
+        verdict.refusal = admission->verdicts[3 * index + 1];
+        verdict.at = admission->verdicts[3 * index + 2];
+    }
+    return verdict;
+}
 
 #ifdef __cplusplus
 }

@@ -18,7 +18,7 @@ const C: [(&str, &str); 6] = [
     ("peer_pack_scan", "pack"),
 ];
 /// The proved library's.
-const PROVED: [&str; 7] = [
+const PROVED: [&str; 11] = [
     "khx_run",
     "khx_verify",
     "khx_pack_check",
@@ -26,6 +26,10 @@ const PROVED: [&str; 7] = [
     "khx_list",
     "khx_pack_find",
     "khx_pack_lookup",
+    "khx_report",
+    "khx_admit_start",
+    "khx_admit_chunk",
+    "khx_admit_close",
 ];
 /// How far past a multiple of `LINE` the copies of a function begin.
 const PLACES: [usize; 4] = [0, 16, 32, 48];

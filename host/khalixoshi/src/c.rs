@@ -81,6 +81,14 @@ pub struct Entry {
     pub length: u16,
 }
 
+#[repr(C)]
+pub struct Admitted {
+    pub refusal: usize,
+    pub closed: usize,
+    pub verdicts: usize,
+    pub lost: usize,
+}
+
 extern "C" {
     fn khx_decode(program: *const u8, program_length: usize, at: usize) -> Decoded;
     fn khx_read(program: *const u8, program_length: usize, at: *mut usize) -> Decoded;
@@ -133,6 +141,23 @@ extern "C" {
         room: *mut u8,
         room_length: usize,
     ) -> Written;
+    fn khx_admit_start(numbers: *mut usize, numbers_length: usize) -> Admitted;
+    fn khx_admit_chunk(
+        numbers: *mut usize,
+        numbers_length: usize,
+        chunk: *const u8,
+        chunk_length: usize,
+        contents: *mut u8,
+        contents_length: usize,
+        body: *mut u8,
+        body_length: usize,
+        map: *mut u16,
+        map_length: usize,
+        verdicts: *mut u16,
+        verdicts_length: usize,
+    ) -> Admitted;
+    fn khx_admit_close(numbers: *mut usize, numbers_length: usize) -> Admitted;
+    fn khx_admit_ask(numbers: *const usize, numbers_length: usize) -> Admitted;
 }
 
 pub fn decode(program: &[u8], at: usize) -> Decoded {
@@ -258,4 +283,42 @@ pub fn report(pack: &[u8], map: &mut [u16], room: &mut [u8]) -> Written {
             room.len(),
         )
     }
+}
+
+pub fn admit_start(numbers: &mut [usize]) -> Admitted {
+    unsafe { khx_admit_start(numbers.as_mut_ptr(), numbers.len()) }
+}
+
+pub fn admit_chunk(
+    numbers: &mut [usize],
+    chunk: &[u8],
+    contents: &mut [u8],
+    body: &mut [u8],
+    map: &mut [u16],
+    verdicts: &mut [u16],
+) -> Admitted {
+    unsafe {
+        khx_admit_chunk(
+            numbers.as_mut_ptr(),
+            numbers.len(),
+            chunk.as_ptr(),
+            chunk.len(),
+            contents.as_mut_ptr(),
+            contents.len(),
+            body.as_mut_ptr(),
+            body.len(),
+            map.as_mut_ptr(),
+            map.len(),
+            verdicts.as_mut_ptr(),
+            verdicts.len(),
+        )
+    }
+}
+
+pub fn admit_close(numbers: &mut [usize]) -> Admitted {
+    unsafe { khx_admit_close(numbers.as_mut_ptr(), numbers.len()) }
+}
+
+pub fn admit_ask(numbers: &[usize]) -> Admitted {
+    unsafe { khx_admit_ask(numbers.as_ptr(), numbers.len()) }
 }

@@ -83,6 +83,9 @@ numbers! {
     PackEnd = 34, "the bodies do not end at the pack's end; in a lookup the entry's body ends past it; in writing the lengths do not sum to the bodies", "the pack is truncated or has bytes too many; check it before you look up in it";
     PackEntry = 35, "an entry of over 1,024 cells or 16,384 bytes", "shorten the rule";
     PackAbsent = 36, "no entry with the tag is found", "the pack has no rule for this kind of table";
+    AdmissionClosed = 37, "a chunk or a second close after the admission's close", "go by the first close's answer; begin another admission for another pack";
+    AdmissionMemory = 90, "a memory lent to an admission is shorter than stated", "lend 8 numbers, 514 bytes for the contents, 16,384 bytes for a body, 16,384 cells for its map, 192 cells for the verdicts";
+    AdmissionDamaged = 91, "the numbers are none that an admission has", "begin the admission before its first chunk, and write nothing into its memory";
 }
 
 impl Error {
@@ -155,7 +158,7 @@ mod tests {
 
     #[test]
     fn numbers_go_back_and_forth() {
-        assert_eq!(known().len(), 24);
+        assert_eq!(known().len(), 27);
         for number in 0..100 {
             assert_eq!(Error::from_number(number).number(), number);
         }
@@ -181,7 +184,8 @@ mod tests {
         assert_eq!(told, ours);
     }
 
-    /// The header names the same refusals: KHX_DATA_RANGE is DataRange.
+    /// The header names the same refusals: KHX_DATA_RANGE is DataRange. KHX_CLOSED alone
+    /// has a longer name, since an admission's answer is `Closed` too.
     #[test]
     fn names_of_the_header() {
         let (_, list) = HEADER.split_once("KHX_NONE = 0,").unwrap();
@@ -203,7 +207,10 @@ mod tests {
 
     fn camel(name: &str) -> String {
         let word = |word: &str| word[..1].to_string() + &word[1..].to_lowercase();
-        name.split('_').skip(1).map(word).collect()
+        match name {
+            "KHX_CLOSED" => "AdmissionClosed".to_string(),
+            _ => name.split('_').skip(1).map(word).collect(),
+        }
     }
 
     #[test]
@@ -218,6 +225,9 @@ mod tests {
         assert_eq!(size("KHX_INSTRUCTION_MAX"), crate::INSTRUCTION_MAX);
         assert_eq!(size("KHX_PACK_MAX"), crate::PACK_MAX);
         assert_eq!(size("KHX_ENTRIES_MAX"), crate::ENTRIES_MAX);
+        assert_eq!(size("KHX_CONTENTS_MAX"), crate::admission::CONTENTS_MAX);
+        assert_eq!(size("KHX_ADMISSION_NUMBERS"), crate::admission::NUMBERS);
+        assert_eq!(size("KHX_VERDICT_CELLS"), crate::admission::VERDICT_CELLS);
         assert_eq!(size("KHX_LIST_MAX"), crate::LIST_MAX);
         assert_eq!(size("KHX_REPORT_MAX"), crate::REPORT_MAX);
         assert_eq!(size("KHX_UNMET"), crate::UNMET.into());

@@ -37,13 +37,18 @@
 //! # Ok::<(), khalixoshi::Error>(())
 //! ```
 //!
+//! A pack that comes over a slow line is checked while it comes, and need not be held: its
+//! chunks are fed to an [`Admission`], which is closed behind the last.
+//!
 //! Every memory is lent by the caller, and nothing is kept between calls: calls may run
 //! at the same time, many over one pack too. Beside each function over a lent room
-//! stands one that makes its room itself.
+//! stands one that makes its room itself. An [`Admission`] alone lasts from call to call,
+//! and has its memory in itself.
 
 #![deny(unsafe_code)]
 #![warn(missing_docs)]
 
+mod admission;
 #[allow(unsafe_code)]
 mod c;
 mod error;
@@ -55,6 +60,7 @@ mod run;
 pub mod tables;
 mod verify;
 
+pub use admission::{Admission, Answer, Ruling};
 pub use error::{Error, Fault};
 pub use instruction::{decode, encode, encoded, shape, Decoded, Instruction, Reader, Shape};
 pub use listing::{list, listing};

@@ -31,6 +31,14 @@ pub struct Refused {
 }
 
 impl Refused {
+    /// A verdict's two numbers: a refusal of 0 is none.
+    pub(crate) fn unless_none(refusal: usize, at: usize) -> Result<(), Refused> {
+        Error::unless_none(refusal).map_err(|error| Refused {
+            error,
+            at: (1..=10).contains(&refusal).then_some(at),
+        })
+    }
+
     /// What it means, in words: those of the error, but for 1, where the address is
     /// that of the instruction which leads to the end. An empty program has none: it
     /// is 1 at 0 too.
@@ -51,14 +59,20 @@ impl Refused {
             error => error.advice(),
         }
     }
+
+    /// Writes it without the words, as the verdicts of a pack have it.
+    pub(crate) fn in_numbers(self, f: &mut fmt::Formatter<'_>) -> fmt::Result {
+        write!(f, "refused {}", self.error.number())?;
+        match self.at {
+            Some(at) => write!(f, " at {at:04X}"),
+            None => Ok(()),
+        }
+    }
 }
 
 impl fmt::Display for Refused {
     fn fmt(&self, f: &mut fmt::Formatter<'_>) -> fmt::Result {
-        write!(f, "refused {}", self.error.number())?;
-        if let Some(at) = self.at {
-            write!(f, " at {at:04X}")?;
-        }
+        self.in_numbers(f)?;
         write!(f, ": {}", self.meaning())
     }
 }
@@ -87,10 +101,7 @@ impl std::error::Error for Refused {}
 /// ```
 pub fn verify(program: &[u8], cells: usize, map: &mut [u16]) -> Result<(), Refused> {
     let verdict = c::verify(program, cells, map);
-    Error::unless_none(verdict.refusal).map_err(|error| Refused {
-        error,
-        at: (1..=10).contains(&verdict.refusal).then_some(verdict.at),
-    })
+    Refused::unless_none(verdict.refusal, verdict.at)
 }
 
 /// The depth map of a program that may run with so many stack cells.

@@ -1,5 +1,6 @@
 //! `khx bench`: the proved library against plain careful C, in one process.
 
+mod admissions;
 mod case;
 mod cases;
 mod clock;
@@ -25,10 +26,11 @@ installed when khx was built, clang -O3: the fastest of them is the yardstick. T
 makes the same checks, but none where it finds a tag: by a scan, in a pack that was
 checked once. Where code lies in memory moves its time, so each side is linked and timed
 at four places, 16 bytes apart, and the means are compared; the face for Rust alone has
-one place. Says whether the targets are met; short, copy, pack-check, the finds, read and
-list have none, and the last two are timed alone, since that C has no reader and no
-listing. A CASE is one of those below or the beginning of some, up to a dash: verify,
-copy, tags-64. Without a CASE, all of them.
+one place. Says whether the targets are met; short, copy, pack-check, the finds, read,
+list and the admissions byte by byte have none. Reader and listing are timed alone, since
+that C has neither; a pack admitted in chunks is timed against our own report on the whole
+pack. A CASE is one of those below or the beginning of some, up to a dash: verify, copy,
+tags-64, admit. Without a CASE, all of them.
 
   --seconds N   how long to time, all cases together (default 10)
 
@@ -50,7 +52,8 @@ fastest build. A pack is asked for its tags 65,536 times a call, in passes over 
 them: by the cases of tags each in another order, so that the processor does not learn
 where a scan will end, by those of rising each in the pack's own, which it learns. C's
 scan trusts a pack that was checked once, and checks nothing; our find checks it for each
-tag. The face for Rust has one copy, timed four times.
+tag. The face for Rust has one copy, timed four times. An admission is its start, all its
+chunks and its close; the yardstick is our report on the whole pack, in one call.
 ";
 
 /// The seconds, and the cases that are asked for.

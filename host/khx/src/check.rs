@@ -7,22 +7,33 @@ use khalixoshi::{depths, verdicts, Refused, PACK_MAX};
 
 use crate::args::Args;
 use crate::failure::{Failure, Outcome};
-use crate::{explain, files, hidden, hints, lines};
+use crate::{explain, files, hidden, hints, lines, stream};
 
 pub const HELP: &str = "\
 khx check: the verdict on each rule of a pack, and why a rule is refused.
 
 usage: khx check PACK
+       khx check --stream [PACK]
 
 First a line for each rule, as packcheck prints them: `TTTT accepted` or `TTTT refused N at AAAA`, or only
 `pack refused N` (tag and address in hex). Then, for each rule refused, the listing around the instruction
 refused, which is marked with >, what the number means, how the rule comes to it, and what to do about it; and,
 for each rule accepted of which the listing would not show all that runs, a warning: khx list --paths does.
 
+  --stream   check a pack while it comes, from standard input unless a PACK is named, and without holding it
+
+With --stream a line on standard error gives the verdict on each rule as soon as its last byte is in: `khx: provisional:
+TTTT accepted`. What follows may still refuse the pack, and then `khx: withdrawn: ..` takes them all back. Where it is
+refused whatever follows, `khx: lost: ..` says so at once; it is read on to its end, for the number may still become 31,
+but not past 24,577 bytes. Only then come the final verdicts, on standard output, as without --stream; but no listing.
+
 PACK may be -, standard input. Exit status: 0 where every rule is accepted, 1 where one is refused.
 ";
 
-pub fn main(args: Args, out: &mut dyn Write) -> Result<Outcome, Failure> {
+pub fn main(mut args: Args, out: &mut dyn Write) -> Result<Outcome, Failure> {
+    if args.flag("--stream") {
+        return stream::main(args, out);
+    }
     let [file] = args.files(&["PACK"])?;
     let pack = files::read(&file, PACK_MAX)?;
     out.write_all(verdicts(&pack).as_bytes())?;

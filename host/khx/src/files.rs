@@ -2,7 +2,7 @@
 
 use std::ffi::OsStr;
 use std::fs::File;
-use std::io::{self, Read};
+use std::io::{self, ErrorKind, Read};
 use std::path::Path;
 
 use crate::failure::Failure;
@@ -21,15 +21,34 @@ pub fn read_by_head(
     most: impl FnOnce(&[u8]) -> usize,
 ) -> Result<Vec<u8>, Failure> {
     let read = || -> io::Result<Vec<u8>> {
-        let mut from: Box<dyn Read> = match file == "-" {
-            true => Box::new(io::stdin().lock()),
-            false => Box::new(File::open(file)?),
-        };
+        let mut from = opened(file)?;
         let mut bytes = Vec::new();
         from.by_ref().take(head as u64).read_to_end(&mut bytes)?;
         let rest = (most(&bytes) + 1).saturating_sub(bytes.len());
         from.take(rest as u64).read_to_end(&mut bytes)?;
         Ok(bytes)
+    };
+    read().map_err(|error| unusable(file, &error))
+}
+
+/// Hands on what a file holds as it comes, never waiting for more than one byte, until its
+/// end or until the taker says that it has enough.
+pub fn read_as_it_comes(
+    file: &OsStr,
+    mut has_enough: impl FnMut(&[u8]) -> bool,
+) -> Result<(), Failure> {
+    let mut read = || -> io::Result<()> {
+        let mut from = opened(file)?;
+        let mut room = [0; 4_096];
+        loop {
+            match from.read(&mut room) {
+                Ok(0) => return Ok(()),
+                Ok(count) if has_enough(&room[..count]) => return Ok(()),
+                Ok(_) => {}
+                Err(error) if error.kind() == ErrorKind::Interrupted => {}
+                Err(error) => return Err(error),
+            }
+        }
     };
     read().map_err(|error| unusable(file, &error))
 }
@@ -45,6 +64,13 @@ pub fn name(file: &OsStr) -> String {
         true => "standard input".to_string(),
         false => Path::new(file).display().to_string(),
     }
+}
+
+fn opened(file: &OsStr) -> io::Result<Box<dyn Read>> {
+    Ok(match file == "-" {
+        true => Box::new(io::stdin().lock()),
+        false => Box::new(File::open(file)?),
+    })
 }
 
 fn unusable(file: &OsStr, error: &io::Error) -> Failure {

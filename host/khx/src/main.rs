@@ -20,6 +20,7 @@ mod paths;
 mod progress;
 mod run;
 mod shapes;
+mod stream;
 mod table;
 mod terminal;
 mod words;

@@ -2,9 +2,12 @@
 //! All unsafe code of this crate is written here. Both sides take the same arguments; how they
 //! write their numbers and states is their [`Form`].
 
+mod admission;
+
 use std::ptr;
 
 use crate::PLACES;
+pub use admission::{AdmitChunk, AdmitNumbers, Admitter, Memories, Report, Reporter};
 
 /// The status of a machine that has halted, as C numbers it; 0 is one that runs, and any
 /// other number is a fault.

@@ -6,10 +6,13 @@
 
 mod functions;
 
-use functions::{copies, Copies, Find, List, PackCheck, Read, Run, Scan, Verify, VerifyByCursor};
+use functions::{
+    copies, AdmitChunk, AdmitNumbers, Copies, Find, List, PackCheck, Read, Report, Run, Scan,
+    Verify, VerifyByCursor,
+};
 pub use functions::{
-    sums, Cursor, Finder, Form, Functions, Lister, Measured, Memmove, Plain, Proved, Reader,
-    Scanner, HALTED,
+    sums, Admitter, Cursor, Finder, Form, Functions, Lister, Measured, Memmove, Memories, Plain,
+    Proved, Reader, Reporter, Scanner, HALTED,
 };
 
 /// Each function is linked so many times.
@@ -51,7 +54,8 @@ macro_rules! functions {
 /// The sides, from the names of their copies.
 macro_rules! sides {
     (
-        proved $run:tt $verify:tt $pack_check:tt $read:tt $list:tt $find:tt $lookup:tt;
+        proved $run:tt $verify:tt $pack_check:tt $read:tt $list:tt $find:tt $lookup:tt
+            $report:tt $start:tt $chunk:tt $close:tt;
         $($name:literal $version:literal $c_run:tt $c_verify:tt $c_pack_check:tt $c_cursor:tt $c_memmove:tt $c_scan:tt;)*
     ) => {
         /// The proved library.
@@ -68,6 +72,16 @@ macro_rules! sides {
 
         /// The proved library's lookup, for a pack that was checked.
         pub static LOOKUP: Finder = Finder(copies!(Find, $lookup));
+
+        /// The proved library's report on a whole pack.
+        pub static REPORTER: Reporter = Reporter(copies!(Report, $report));
+
+        /// The proved library's admission of a pack in chunks.
+        pub static ADMITTER: Admitter = Admitter {
+            start: copies!(AdmitNumbers, $start),
+            chunk: copies!(AdmitChunk, $chunk),
+            close: copies!(AdmitNumbers, $close),
+        };
 
         /// The builds of the C that are measured: what a user would write instead is
         /// compiled by the best compiler at hand.
@@ -110,6 +124,22 @@ pub fn check_places() -> Result<(), String> {
     check(proved, "list", LISTER.0.map(|copy| copy as usize))?;
     check(proved, "find", FIND.0.map(|copy| copy as usize))?;
     check(proved, "lookup", LOOKUP.0.map(|copy| copy as usize))?;
+    check(proved, "report", REPORTER.0.map(|copy| copy as usize))?;
+    check(
+        proved,
+        "admission's start",
+        ADMITTER.start.map(|copy| copy as usize),
+    )?;
+    check(
+        proved,
+        "admission's chunk",
+        ADMITTER.chunk.map(|copy| copy as usize),
+    )?;
+    check(
+        proved,
+        "admission's close",
+        ADMITTER.close.map(|copy| copy as usize),
+    )?;
     for build in BUILDS {
         let side = format!("C by {}", build.name);
         check_functions(&side, &build.functions)?;

@@ -16,13 +16,15 @@ pub enum Side {
     Cursor(usize),
     /// A build of C's run that copies by memmove.
     Memmove(usize),
+    /// The proved library's report on a whole pack.
+    Whole,
 }
 
 impl Side {
     /// What it has as all sides do.
     pub fn functions(self) -> &'static dyn Measured {
         match self {
-            Side::Proved => &peer::PROVED,
+            Side::Proved | Side::Whole => &peer::PROVED,
             Side::C(build) | Side::Cursor(build) | Side::Memmove(build) => {
                 &peer::BUILDS[build].functions
             }
@@ -37,6 +39,7 @@ impl fmt::Display for Side {
             Side::C(build) => write!(f, "C by {}", peer::BUILDS[build].name),
             Side::Cursor(build) => write!(f, "C, cursor, by {}", peer::BUILDS[build].name),
             Side::Memmove(build) => write!(f, "C, memmove, by {}", peer::BUILDS[build].name),
+            Side::Whole => write!(f, "the report on the whole pack"),
         }
     }
 }
@@ -44,6 +47,11 @@ impl fmt::Display for Side {
 /// The proved library, where C has no such function.
 pub fn ours_alone() -> Vec<Side> {
     vec![Side::Proved]
+}
+
+/// The proved library in parts, and its report on a whole pack.
+pub fn ours_and_the_whole() -> Vec<Side> {
+    vec![Side::Proved, Side::Whole]
 }
 
 /// The proved library, and C by each of its builds.

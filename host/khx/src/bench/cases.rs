@@ -5,8 +5,8 @@ use khalixoshi::tables::{Facts, Lending, BUDGET};
 use khalixoshi::{CELLS_MAX, LIST_MAX, PACK_MAX, UNMET};
 
 use super::case::{self, Answer, Case, Side, Unit, Work};
-use super::programs;
 use super::tags::{Order, Ours, Tags, ASKED};
+use super::{admissions, programs};
 
 /// The rules that ship in examples/, and the tags of two of them.
 const RULES: &[u8] = include_bytes!("../../../../examples/fonts.pack");
@@ -28,6 +28,13 @@ static FIND: Ours = Ours::Copies(&peer::FIND);
 
 /// All cases, in the order in which they are timed.
 pub fn all() -> Vec<Case> {
+    let mut cases = beside_c();
+    cases.extend(admissions::cases());
+    cases
+}
+
+/// Those beside C, and the reader and the listing, which C does not have.
+fn beside_c() -> Vec<Case> {
     let rules = Checked::new(RULES).expect("the shipped pack is good");
     vec![
         run(
@@ -303,7 +310,7 @@ impl Work for Run {
     fn call(&mut self, side: Side, place: usize) -> Answer {
         let (program, data, cells) = (&self.program, &mut self.data, &mut self.cells);
         match side {
-            Side::Proved | Side::C(_) | Side::Cursor(_) => {
+            Side::Proved | Side::C(_) | Side::Cursor(_) | Side::Whole => {
                 side.functions().run(place, program, data, cells)
             }
             Side::Memmove(build) => {
@@ -353,7 +360,7 @@ impl Work for Verify {
     fn call(&mut self, side: Side, place: usize) -> Answer {
         let (program, map) = (&self.program, &mut self.map);
         answer(match side {
-            Side::Proved | Side::C(_) | Side::Memmove(_) => {
+            Side::Proved | Side::C(_) | Side::Memmove(_) | Side::Whole => {
                 side.functions().verify(place, program, CELLS_MAX, map)
             }
             Side::Cursor(build) => {

@@ -4,7 +4,7 @@ use super::case::{Case, Side, Unit};
 use super::clock::{Timed, Times};
 
 /// The times of a case; of C by each of its builds, of which there are none where C has no
-/// such function.
+/// such function; of the report on the whole pack where a pack comes in chunks.
 pub struct Finding {
     name: &'static str,
     unit: Unit,
@@ -14,6 +14,7 @@ pub struct Finding {
     c: Vec<Times>,
     cursor: Vec<Times>,
     memmove: Vec<Times>,
+    whole: Option<Times>,
     rounds: u32,
 }
 
@@ -31,6 +32,7 @@ impl Finding {
             c: of(|side| matches!(side, Side::C(_))),
             cursor: of(|side| matches!(side, Side::Cursor(_))),
             memmove: of(|side| matches!(side, Side::Memmove(_))),
+            whole: of(|side| side == Side::Whole).first().copied(),
             rounds: timed.rounds,
         }
     }
@@ -40,10 +42,25 @@ impl Finding {
         times.mean() / self.ours.mean()
     }
 
-    /// The fastest C's mean by ours.
+    /// What ours is measured by: the fastest C, or the report on the whole pack.
+    fn yardstick(&self) -> Option<(&'static str, &Times)> {
+        let build = fastest(&self.c);
+        match (self.c.get(build), &self.whole) {
+            (Some(c), _) => Some((peer::BUILDS[build].name, c)),
+            (None, Some(whole)) => Some(("whole pack", whole)),
+            (None, None) => None,
+        }
+    }
+
+    /// The yardstick's mean by ours.
     fn ratio(&self) -> Option<f64> {
-        let c = self.c.get(fastest(&self.c));
-        c.map(|times| self.ratio_to(times))
+        self.yardstick().map(|(_, times)| self.ratio_to(times))
+    }
+
+    /// Our mean by that of the report on the whole pack.
+    fn of_the_whole(&self) -> Option<f64> {
+        let whole = self.whole.as_ref()?;
+        Some(self.ours.mean() / whole.mean())
     }
 
     /// C's time where it is fastest, by whatever build, by our time at a place.
@@ -102,8 +119,10 @@ impl Finding {
     }
 
     fn line(&self) -> String {
-        let yardstick = fastest(&self.c);
-        let c = self.c.get(yardstick);
+        let (yardstick, times) = match self.yardstick() {
+            Some((name, times)) => (name, self.told_all(times)),
+            None => ("", String::new()),
+        };
         row([
             self.name,
             match self.unit {
@@ -114,8 +133,8 @@ impl Finding {
                 Unit::Call => "ns/call",
             },
             &self.told_all(&self.ours),
-            &c.map_or(String::new(), |times| self.told_all(times)),
-            c.map_or("", |_| peer::BUILDS[yardstick].name),
+            &times,
+            yardstick,
             &self.ratio().map_or(String::new(), |it| format!("{it:.2}")),
             &self.told_shipped(),
             &self.rounds.to_string(),
@@ -144,20 +163,14 @@ fn row([name, unit, ours, c, yardstick, ratio, shipped, rounds]: [&str; 8]) -> S
     format!("{sides}{ratio:>6}{shipped:>12}{rounds:>8}\n")
 }
 
-/// A line for each case: the fastest build of the C is the yardstick.
+/// A line for each case: the fastest build of the C is the yardstick, or of what comes in
+/// chunks the whole pack.
 pub fn table(findings: &[Finding]) -> String {
     let spread = "(least..most)";
-    let [ours, c] = ["ours", "C"].map(|side| format!("{side} {spread}"));
+    let [ours, theirs] = ["ours", "yardstick"].map(|side| format!("{side} {spread}"));
     let shipped = "as shipped";
     let head = [
-        "case",
-        "unit",
-        &ours,
-        &c,
-        "yardstick",
-        "ratio",
-        shipped,
-        "rounds",
+        "case", "unit", &ours, &theirs, "which is", "ratio", shipped, "rounds",
     ];
     row(head) + &findings.iter().map(Finding::line).collect::<String>()
 }
@@ -199,7 +212,25 @@ pub fn targets(findings: &[Finding]) -> String {
             text += &growth(hostile, straight);
         }
     }
-    text + &lookups(findings)
+    text + &lookups(findings) + &admissions(findings)
+}
+
+/// What the admission of a pack takes of the report on the whole of it: the target is for
+/// chunks that a line may bring, and byte by byte there is none.
+fn admissions(findings: &[Finding]) -> String {
+    let times = findings
+        .iter()
+        .filter_map(|f| Some((f.of_the_whole()?, f.name)));
+    let (single, longer): (Vec<_>, Vec<_>) = times.partition(|(_, name)| name.ends_with("-by-1"));
+    let mut text = String::new();
+    if let Some((times, name)) = longer.iter().max_by(|a, b| a.0.total_cmp(&b.0)) {
+        let met = met(*times <= 1.2);
+        text += &format!("admission in chunks of 64 bytes or more at most 1.2 times the report on the whole pack: {met} (most {times:.2}, {name})\n");
+    }
+    for (times, name) in single {
+        text += &format!("admission byte by byte {times:.2} times the report on the whole pack, {name} (no target)\n");
+    }
+    text
 }
 
 /// The targets of the lookup, by the size of its pack; the same ones by the face for Rust,
@@ -287,6 +318,7 @@ mod tests {
             c: vec![times(c), times(c + 1.0)],
             cursor: Vec::new(),
             memmove: Vec::new(),
+            whole: None,
             rounds: 5,
         }
     }
@@ -428,6 +460,31 @@ mod tests {
              (least 2.00, tags-4-rust)\n\
              lookup in a pack of 4 rules, in rising order, at least as fast as C's scan: missed \
              (least 0.50, rising-4-lookup)\n"
+        );
+    }
+
+    #[test]
+    fn an_admission_is_judged_by_the_whole_pack() {
+        let admit = |name, ours| Finding {
+            unit: Unit::Instructions(9),
+            c: Vec::new(),
+            whole: Some(times(2_000.0)),
+            ..run(name, ours, 0.0)
+        };
+        let findings = [
+            admit("admit-64-by-64", 2_200.0),
+            admit("admit-64-by-1", 9_000.0),
+            admit("admit-1-by-24576", 2_500.0),
+        ];
+        let line = "admit-64-by-64 us/call 2.2 (1.1..3.3) 2.0 (1.0..3.0) whole pack 0.91 5";
+        assert_eq!(words(&table(&findings)), line);
+        assert_eq!(by_build(&findings).lines().count(), 1);
+        assert_eq!(
+            targets(&findings),
+            "admission in chunks of 64 bytes or more at most 1.2 times the report on the whole \
+             pack: missed (most 1.25, admit-1-by-24576)\n\
+             admission byte by byte 4.50 times the report on the whole pack, admit-64-by-1 \
+             (no target)\n"
         );
     }
 

@@ -190,15 +190,20 @@ fn to(code: u8, target: usize) -> [u8; 3] {
     [code, low, high]
 }
 
-/// Random instructions at known depths; every branch goes to an instruction that
-/// stands at its depth.
+/// Random instructions of all kinds, as many bytes as a program can have.
 pub fn random() -> Vec<u8> {
-    let mut random = Random(7);
+    random_of(PROGRAM_MAX, 7)
+}
+
+/// So many bytes of random instructions at known depths, from a seed; every branch goes to
+/// an instruction that stands at its depth, if only to the next one.
+pub fn random_of(length: usize, seed: u64) -> Vec<u8> {
+    let mut random = Random(seed);
     let mut program = Vec::new();
     let mut depth = 0;
     let mut starts: Vec<Vec<usize>> = vec![Vec::new(); LOW + HIGH];
     let mut branches = Vec::new();
-    while program.len() < PROGRAM_MAX - 9 {
+    while program.len() < length - 9 {
         starts[depth].push(program.len());
         let kind = kind(&mut random, depth);
         if kind.code == BRANCH {
@@ -208,10 +213,13 @@ pub fn random() -> Vec<u8> {
         program.extend((1..kind.length).map(|_| random.below(16) as u8));
         depth = depth - kind.taken + kind.pushed;
     }
-    program.resize(PROGRAM_MAX, 0x00);
+    program.resize(length, 0x00);
     for (at, depth) in branches {
         let places = &starts[depth];
-        let target = places[random.below(places.len())];
+        let target = match places.len() {
+            0 => at + 3,
+            count => places[random.below(count)],
+        };
         program[at..at + 3].copy_from_slice(&to(BRANCH, target));
     }
     program
@@ -295,5 +303,15 @@ mod tests {
         assert_eq!(examined(ping_pong()), 5_461);
         assert_eq!(examined(branches()), 9_829);
         assert!(examined(random()) > 8_000);
+    }
+
+    #[test]
+    fn the_short_ones_are_accepted() {
+        for seed in 1..=100 {
+            let program = random_of(375, seed);
+            assert_eq!(program.len(), 375);
+            let map = depths(&program, CELLS_MAX).unwrap();
+            assert!(map.iter().filter(|&&depth| depth != UNMET).count() > 150);
+        }
     }
 }

@@ -1,0 +1,211 @@
+//! khx check --stream: a pack that comes in pieces, with nothing behind a piece until what it
+//! brought was told.
+
+mod start;
+
+use std::fs;
+use std::io::{BufRead, BufReader, Read, Write};
+use std::process::{Child, ChildStderr, ChildStdin, Output};
+
+use start::{assert_fails, command, file, khx, khx_reading, started, PACK, ROOT};
+
+/// Two rules of one byte, a halt each, with the tags 7 and 9.
+const TWO: [u8; 20] = [
+    2, 0, 7, 0, 0, 0, 18, 0, 1, 0, 9, 0, 0, 0, 19, 0, 1, 0, 0x00, 0x00,
+];
+
+/// The command while its pack comes.
+struct Coming {
+    child: Child,
+    line: ChildStdin,
+    told: BufReader<ChildStderr>,
+}
+
+impl Coming {
+    fn new() -> Coming {
+        let mut child = started(&["check", "--stream"]);
+        Coming {
+            line: child.stdin.take().unwrap(),
+            told: BufReader::new(child.stderr.take().unwrap()),
+            child,
+        }
+    }
+
+    fn send(&mut self, piece: &[u8]) {
+        self.line.write_all(piece).unwrap();
+    }
+
+    /// The next line on standard error is this one: nothing was sent since.
+    fn tells(&mut self, expected: &str) {
+        let mut line = String::new();
+        self.told.read_line(&mut line).unwrap();
+        assert_eq!(line, format!("khx: {expected}\n"));
+    }
+
+    /// The pack has come to its end, and nothing more is told aside.
+    fn ends(self, status: i32, text: &str) {
+        drop(self.line);
+        ended(self.child, self.told, status, text);
+    }
+
+    /// The command ends though more of the pack may come.
+    fn ends_by_itself(self, status: i32, text: &str) {
+        ended(self.child, self.told, status, text);
+    }
+}
+
+fn ended(child: Child, mut told: BufReader<ChildStderr>, status: i32, text: &str) {
+    let output = child.wait_with_output().unwrap();
+    let mut rest = String::new();
+    told.read_to_string(&mut rest).unwrap();
+    assert_eq!(rest, "");
+    assert_eq!(String::from_utf8_lossy(&output.stdout), text);
+    assert_eq!(output.status.code(), Some(status));
+}
+
+fn text(bytes: &[u8]) -> String {
+    String::from_utf8_lossy(bytes).into_owned()
+}
+
+fn nightly() -> Vec<u8> {
+    fs::read(format!("{ROOT}/examples/nightly.pack")).unwrap()
+}
+
+#[test]
+fn a_verdict_before_the_rest_is_sent() {
+    let mut coming = Coming::new();
+    coming.send(&TWO[..1]);
+    coming.send(&TWO[1..19]);
+    coming.tells("provisional: 0007 accepted");
+    coming.send(&TWO[19..]);
+    coming.tells("provisional: 0009 accepted");
+    coming.ends(0, "0007 accepted\n0009 accepted\n");
+}
+
+#[test]
+fn byte_by_byte() {
+    let mut coming = Coming::new();
+    let mut pack = TWO;
+    pack[19] = 0x5B;
+    for byte in &pack[..19] {
+        coming.send(&[*byte]);
+    }
+    coming.tells("provisional: 0007 accepted");
+    coming.send(&pack[19..]);
+    coming.tells("provisional: 0009 refused 2 at 0000");
+    coming.ends(
+        1,
+        "0007 accepted\n0009 refused 2 at 0000\n\n0009:\n  refused 2 at 0000: illegal first byte, \
+         flags or shift byte\n  the program is not what it claims to be, or the address is inside \
+         an operand\n",
+    );
+}
+
+#[test]
+fn withdrawn_at_the_end() {
+    let mut coming = Coming::new();
+    coming.send(&TWO[..19]);
+    coming.tells("provisional: 0007 accepted");
+    drop(coming.line);
+    let mut rest = String::new();
+    coming.told.read_to_string(&mut rest).unwrap();
+    assert_eq!(rest, "khx: withdrawn: 1 provisional verdict\n");
+    let output = coming.child.wait_with_output().unwrap();
+    assert!(output.stdout.starts_with(b"pack refused 34\n\n34: the "));
+    assert_eq!(output.status.code(), Some(1));
+}
+
+/// What is over size is told at once, and nothing more is waited for.
+#[test]
+fn withdrawn_by_too_many_bytes() {
+    let mut coming = Coming::new();
+    coming.send(&TWO);
+    coming.tells("provisional: 0007 accepted");
+    coming.tells("provisional: 0009 accepted");
+    coming.send(&[0; 24_576 - 20]);
+    coming.send(&[0]);
+    coming.tells("withdrawn: 2 provisional verdicts");
+    coming.tells("lost: the pack is refused, whatever follows: 31: the pack is over 24,576 bytes");
+    coming.ends_by_itself(
+        1,
+        "pack refused 31\n\n31: the pack is over 24,576 bytes\n  split it\n",
+    );
+}
+
+#[test]
+fn lost_is_told_and_the_rest_is_read() {
+    let equal_tags: Vec<u8> = [&TWO[..10], &TWO[2..4], &TWO[12..]].concat();
+    let mut coming = Coming::new();
+    coming.send(&equal_tags[..18]);
+    coming.tells("lost: the pack is refused, whatever follows: 32: a tag not above the one before");
+    coming.send(&equal_tags[18..]);
+    coming.ends(
+        1,
+        "pack refused 32\n\n32: a tag not above the one before\n  sort the entries, one for each \
+         tag\n",
+    );
+    let over = [&equal_tags[..], &[0; 24_576]].concat();
+    let output = khx_reading(&["check", "--stream"], &over);
+    assert!(output.stdout.starts_with(b"pack refused 31\n"));
+}
+
+/// Wherever a pack is cut, the verdicts are those of the whole file.
+#[test]
+fn verdicts_as_of_the_whole() {
+    let verdicts = fs::read_to_string(format!("{ROOT}/crates/packcheck/stdout")).unwrap();
+    let pack = nightly();
+    for at in [1, 2, 50, 82, 83, 100, pack.len() - 1] {
+        let mut child = started(&["check", "--stream", "-"]);
+        let mut line = child.stdin.take().unwrap();
+        line.write_all(&pack[..at]).unwrap();
+        line.write_all(&pack[at..]).unwrap();
+        drop(line);
+        let Output { stdout, stderr, .. } = child.wait_with_output().unwrap();
+        assert!(text(&stdout).starts_with(&format!("{verdicts}\n0020:\n  refused 5")));
+        assert_eq!(text(&stderr).replace("khx: provisional: ", ""), verdicts);
+    }
+}
+
+#[test]
+fn a_file_and_no_rules() {
+    let pack = file("stream/m1.pack", &PACK);
+    let output = khx(&["check", "--stream", &pack]);
+    assert_eq!(text(&output.stderr), "khx: provisional: 0007 accepted\n");
+    assert_eq!(text(&output.stdout), "0007 accepted\n");
+    assert_eq!(output.status.code(), Some(0));
+    let output = khx_reading(&["check", "--stream"], &[0, 0]);
+    assert_eq!((output.stdout.len(), output.stderr.len()), (0, 0));
+    assert_eq!(output.status.code(), Some(0));
+    let endless = khx(&["check", "/dev/zero", "--stream"]);
+    assert!(endless.stdout.starts_with(b"pack refused 31\n"));
+    let nothing = khx(&["check", "--stream"]);
+    assert!(nothing.stdout.starts_with(b"pack refused 30\n"));
+}
+
+#[test]
+fn bad_usage() {
+    assert_fails(&khx(&["check", "--stream", "a", "b"]), 2, "too many: b");
+    assert_fails(&khx(&["check", "--stream", "--all"]), 2, "no option --all");
+    assert_fails(&khx(&["check", "--stream", "none.pack"]), 2, "none.pack: ");
+    assert_fails(&khx(&["check", "--stream", "."]), 2, ".: ");
+}
+
+/// Nothing good is said that was not found; but nobody need hear the provisional verdicts.
+#[test]
+fn told_to_nobody() {
+    let pack = file("stream/unheard.pack", &PACK);
+    let gone = || {
+        let mut reader = started(&["conform"]);
+        let pipe = reader.stdin.take().unwrap();
+        reader.kill().unwrap();
+        reader.wait().unwrap();
+        pipe
+    };
+    let words = ["check", "--stream", &pack];
+    let output = command(&words).stdout(gone()).output().unwrap();
+    assert_eq!(text(&output.stderr), "khx: provisional: 0007 accepted\n");
+    assert_eq!(output.status.code(), Some(2));
+    let output = command(&words).stderr(gone()).output().unwrap();
+    assert_eq!(text(&output.stdout), "0007 accepted\n");
+    assert_eq!(output.status.code(), Some(0));
+}
