@@ -1,6 +1,8 @@
 //! An answer as a line of text.
 
-use crate::engine::{Decoded, Entry, Number, Ran, Readings, Shape, State, Status, Verdict};
+use crate::engine::{
+    Decoded, Entry, Number, Ran, Readings, Reply, Ruling, Shape, State, Status, Verdict,
+};
 
 /// An answer as it is written: a first word, then fields, each after a blank.
 #[derive(Default)]
@@ -120,7 +122,7 @@ impl Answer {
         }
     }
 
-    pub fn verdict(&mut self, verdict: Verdict, map: &[u16]) {
+    fn verdict(&mut self, verdict: Verdict) {
         match verdict {
             Verdict::Accepted => self.text("accepted"),
             Verdict::Refused(number, at) => {
@@ -131,16 +133,25 @@ impl Answer {
                 }
             }
         }
+    }
+
+    pub fn verified(&mut self, verdict: Verdict, map: &[u16]) {
+        self.verdict(verdict);
         self.cells(map);
     }
 
-    pub fn read(&mut self, read: &Readings) {
-        for (index, answer) in read.answers.iter().enumerate() {
+    /// Several answers, one behind the other.
+    fn joined<T>(&mut self, answers: &[T], write: fn(&mut Answer, &T)) {
+        for (index, answer) in answers.iter().enumerate() {
             if index > 0 {
                 self.text(" ; ");
             }
-            self.decoded(answer);
+            write(self, answer);
         }
+    }
+
+    pub fn read(&mut self, read: &Readings) {
+        self.joined(&read.answers, Answer::decoded);
         self.text(" @");
         self.number(read.address as u64);
     }
@@ -178,6 +189,29 @@ impl Answer {
         match report {
             "" => self.text("-"),
             _ => self.text(&report.replace('\n', "|")),
+        }
+    }
+
+    pub fn replies(&mut self, replies: &[Reply]) {
+        self.joined(replies, Answer::reply);
+    }
+
+    fn reply(&mut self, reply: &Reply) {
+        match reply {
+            Reply::Taken => self.text("ok"),
+            Reply::Open => self.text("open"),
+            Reply::Good(programs, rulings) => self.good(*programs, rulings),
+            Reply::Refused(number) => self.refused(*number),
+        }
+    }
+
+    fn good(&mut self, programs: usize, rulings: &[Ruling]) {
+        self.text("good");
+        self.number(programs as u64);
+        for ruling in rulings {
+            self.number(ruling.tag.into());
+            self.text(" ");
+            self.verdict(ruling.verdict);
         }
     }
 }

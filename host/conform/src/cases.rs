@@ -1,4 +1,4 @@
-//! The thirteen cases: each takes its fields, asks, and writes the answer. None where
+//! The fourteen cases: each takes its fields, asks, and writes the answer. None where
 //! a field is missing, too many or outside its kind: nothing was asked then.
 
 use crate::answers::Answer;
@@ -35,6 +35,7 @@ fn asked(engine: &dyn Engine, line: &[u8]) -> Option<Answer> {
         b"lookup" => by_tag(fields, |pack, tag| engine.lookup(pack, tag)),
         b"writepack" => writepack(engine, fields),
         b"report" => report(engine, fields),
+        b"stream" => stream(engine, fields),
         _ => None,
     }
 }
@@ -108,7 +109,7 @@ fn verify(engine: &dyn Engine, mut fields: Fields) -> Option<Answer> {
     fields.end()?;
     let verdict = engine.verify(&program, cells.into(), &mut map);
     let mut answer = Answer::default();
-    answer.verdict(verdict, &map);
+    answer.verified(verdict, &map);
     Some(answer)
 }
 
@@ -169,5 +170,12 @@ fn report(engine: &dyn Engine, mut fields: Fields) -> Option<Answer> {
     fields.end()?;
     let mut answer = Answer::default();
     answer.report(&engine.report(&pack));
+    Some(answer)
+}
+
+fn stream(engine: &dyn Engine, mut fields: Fields) -> Option<Answer> {
+    let events = fields.events()?;
+    let mut answer = Answer::default();
+    answer.replies(&engine.stream(&events));
     Some(answer)
 }

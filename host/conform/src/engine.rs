@@ -100,6 +100,39 @@ pub struct Entry {
     pub length: u16,
 }
 
+/// What comes to an admission.
+#[derive(Clone, Debug, PartialEq, Eq)]
+pub enum Event {
+    /// The next bytes of the pack, or none.
+    Chunk(Vec<u8>),
+    /// The pack's end.
+    Close,
+    /// The question what the answer is so far.
+    Ask,
+}
+
+/// A program's tag, and the verdict on it.
+#[derive(Clone, Copy, Debug, PartialEq, Eq)]
+pub struct Ruling {
+    /// What the program is asked for by.
+    pub tag: u16,
+    /// Whether it may run with the cells that it wants.
+    pub verdict: Verdict,
+}
+
+/// What an admission answers to an event.
+#[derive(Clone, Debug, PartialEq, Eq)]
+pub enum Reply {
+    /// The chunk is taken.
+    Taken,
+    /// There was no close yet.
+    Open,
+    /// The pack is closed and good: how many programs it has, and what is said of them.
+    Good(usize, Vec<Ruling>),
+    /// Refused, the event or the pack.
+    Refused(Number),
+}
+
 /// An implementation of the machine. Memories, maps and rooms are lent: how they are
 /// left is part of the answer.
 pub trait Engine {
@@ -155,4 +188,7 @@ pub trait Engine {
 
     /// What the thin program prints for a pack.
     fn report(&self, pack: &[u8]) -> String;
+
+    /// Lets the events come to a new admission, and gives its answer to each.
+    fn stream(&self, events: &[Event]) -> Vec<Reply>;
 }

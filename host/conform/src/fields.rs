@@ -1,7 +1,7 @@
 //! The fields of a case, from left to right. Each function takes the next field, and
 //! gives none where it is missing or outside its kind or range.
 
-use crate::engine::{Number, State, Status};
+use crate::engine::{Event, Number, State, Status};
 
 /// The fields of a line that are not taken yet; none are left after the last.
 pub struct Fields<'a> {
@@ -28,8 +28,7 @@ impl<'a> Fields<'a> {
     }
 
     pub fn bytes(&mut self) -> Option<Vec<u8>> {
-        let byte = |digits: &[u8]| Some(digit(digits[0])? << 4 | digit(digits[1])?);
-        list(self.word()?, 2, byte)
+        bytes(self.word()?)
     }
 
     pub fn cells(&mut self) -> Option<Vec<u16>> {
@@ -58,6 +57,28 @@ impl<'a> Fields<'a> {
             depth: self.number_u16()?.into(),
             status: status(self.word()?)?,
         })
+    }
+
+    /// All fields that are left, of which there is at least one.
+    pub fn events(&mut self) -> Option<Vec<Event>> {
+        let mut events = vec![event(self.word()?)?];
+        while let Some(word) = self.word() {
+            events.push(event(word)?);
+        }
+        Some(events)
+    }
+}
+
+fn bytes(word: &[u8]) -> Option<Vec<u8>> {
+    let byte = |digits: &[u8]| Some(digit(digits[0])? << 4 | digit(digits[1])?);
+    list(word, 2, byte)
+}
+
+fn event(word: &[u8]) -> Option<Event> {
+    match word {
+        b"close" => Some(Event::Close),
+        b"ask" => Some(Event::Ask),
+        _ => bytes(word).map(Event::Chunk),
     }
 }
 

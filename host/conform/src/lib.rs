@@ -1,7 +1,7 @@
 //! The conformance protocol (docs/CONFORMANCE.md): one line in, one line out, in
 //! order, of any implementation of the machine.
 //!
-//! - [`Engine`]: the thirteen questions, over plain data.
+//! - [`Engine`]: the fourteen questions, over plain data.
 //! - [`Proved`] and [`Second`]: the proved library and the second implementation.
 //! - [`answer`]: the answer to one line.
 //! - [`serve`]: the answers to all lines of an input.
@@ -27,7 +27,8 @@ mod input;
 
 pub use cases::answer;
 pub use engine::{
-    Decoded, Engine, Entry, Instruction, Number, Ran, Readings, Shape, State, Status, Verdict,
+    Decoded, Engine, Entry, Event, Instruction, Number, Ran, Readings, Reply, Ruling, Shape, State,
+    Status, Verdict,
 };
 pub use engines::{Proved, Second};
 pub use input::serve;

@@ -111,8 +111,83 @@ fn every_family_good_and_refused() {
          report 00
          pack refused 30|
          report 0200010000001200000002000000120001007f
-         0001 refused 1 at 0000|0002 refused 2 at 0000|",
+         0001 refused 1 at 0000|0002 refused 2 at 0000|
+         stream 0100070002000a00040085831500 close
+         ok ; good 1 7 accepted
+         stream 0200010000001200000002000000120001007f close
+         ok ; good 2 1 refused 1 0 2 refused 2 0
+         stream 0000 close
+         ok ; good 0
+         stream 0100070002000a00040085831500 00 close
+         ok ; ok ; refused 34",
     );
+}
+
+/// What may come to an admission, before the close and after it.
+#[test]
+fn events_of_a_stream() {
+    assert_answers(
+        "stream -
+         ok
+         stream ask
+         open
+         stream close
+         refused 30
+         stream close close ask - close 00 ask
+         refused 30 ; refused 37 ; refused 30 ; refused 37 ; refused 37 ; refused 37 ; refused 30
+         stream - ask 00 ask - 00 ask close ask
+         ok ; open ; ok ; open ; ok ; ok ; open ; good 0 ; good 0
+         stream 0000 close - 00 close ask ask
+         ok ; good 0 ; refused 37 ; refused 37 ; refused 37 ; good 0 ; good 0
+         stream 0100070000000a000000 ask close 0100070000000a000000 close ask
+         ok ; open ; good 1 7 refused 1 0 ; refused 37 ; refused 37 ; good 1 7 refused 1 0
+         stream 0100070002000a000400858315 close 00 ask
+         ok ; refused 34 ; refused 37 ; refused 34
+         stream 4100 ask 00 ask close ask
+         ok ; open ; ok ; open ; refused 30 ; refused 30",
+    );
+    for line in [
+        "stream",
+        "stream ",
+        "stream  close",
+        "stream close ",
+        "stream close  ask",
+        "stream 0",
+        "stream 000",
+        "stream 0G",
+        "stream AB",
+        "stream --",
+        "stream close:",
+        "stream Close",
+        "stream asked",
+        "stream close 0",
+        "stream\tclose",
+        "STREAM close",
+    ] {
+        assert_bad(line.as_bytes());
+    }
+}
+
+/// Wherever a pack is cut in three, the close answers alike.
+#[test]
+fn every_cut_of_a_stream() {
+    let pack = "0300010001001a000200050000041c00000006000100\
+                1c0003008183813c00";
+    for from in (0..=pack.len()).step_by(2) {
+        for to in (from..=pack.len()).step_by(2) {
+            let whole = |part: &str| match part {
+                "" => "-".to_string(),
+                _ => part.to_string(),
+            };
+            let parts = [&pack[..from], &pack[from..to], &pack[to..]].map(whole);
+            let line = format!("stream {} {} {} close", parts[0], parts[1], parts[2]);
+            let closed = "good 3 1 refused 5 1 5 refused 1 0 6 refused 10 1";
+            for engine in ENGINES {
+                let answer = answer(engine, line.as_bytes());
+                assert_eq!(answer, format!("ok ; ok ; ok ; {closed}"), "{line}");
+            }
+        }
+    }
 }
 
 /// Asked no time, a reader has no answers to join: what stands after them is left.
@@ -153,6 +228,22 @@ fn sizes_over_the_limits_are_cases() {
         (
             format!("lookup {} 0", "00".repeat(24_576)),
             "refused 36".to_string(),
+        ),
+        (
+            format!("stream {} close 00 ask", "00".repeat(24_577)),
+            "ok ; refused 31 ; refused 37 ; refused 31".to_string(),
+        ),
+        (
+            format!("stream ffff {} ask 00 close", "00".repeat(24_574)),
+            "ok ; ok ; open ; ok ; refused 31".to_string(),
+        ),
+        (
+            format!("stream ffff {} close", "00".repeat(24_574)),
+            "ok ; ok ; refused 30".to_string(),
+        ),
+        (
+            format!("stream 00 {} close", "00".repeat(190_000)),
+            "ok ; ok ; refused 31".to_string(),
         ),
     ];
     for (case, expected) in cases {
@@ -376,7 +467,7 @@ impl Seeded {
 /// line, and the engines agree.
 #[test]
 fn damaged_lines() {
-    let cases: [&[u8]; 13] = [
+    let cases: [&[u8]; 14] = [
         b"decode c901ffff20 0",
         b"encode 192 0 2 2 1 65535 0 0 aaaaaaaaaa",
         b"shape 59",
@@ -390,6 +481,7 @@ fn damaged_lines() {
         b"lookup 0100070002000a00040085831500 7",
         b"writepack 0007 0002 0004 85831500 ffffffffffffffffffffffffffffffff",
         b"report 0100070002000a00040085831500",
+        b"stream 01 00070002000a00040085831500 close - ask",
     ];
     let put = b"0123456789abcdef -#:;|\t\r\0\xFF\xC3Ag";
     let mut seeded = Seeded(0x5EED);

@@ -11,13 +11,16 @@
 //! - [`pack`]: rule packs, read and written.
 //! - [`listing`]: the listing.
 //! - [`reader`]: one instruction after the other.
+//! - [`verdicts`]: the verdicts on the programs of a pack.
 //! - [`report`]: what the program prints for a pack.
+//! - [`admission`]: a pack that comes in chunks.
 //! - [`protocol`]: answers as lines of text.
 //! - [`cases`]: the cases on which the two implementations are compared.
 
 #![forbid(unsafe_code)]
 #![warn(missing_docs)]
 
+pub mod admission;
 pub mod cases;
 pub mod instruction;
 pub mod listing;
@@ -29,4 +32,5 @@ pub mod protocol;
 pub mod reader;
 pub mod report;
 pub mod shape;
+pub mod verdicts;
 pub mod verifier;

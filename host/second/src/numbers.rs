@@ -51,6 +51,8 @@ pub const PACK_END: u32 = 34;
 pub const ENTRY_SIZE: u32 = 35;
 /// Tag absent.
 pub const NO_TAG: u32 = 36;
+/// A chunk or a second close after the close (request No. 1).
+pub const AFTER_CLOSE: u32 = 37;
 
 /// The most bytes a program may have.
 pub const PROGRAM_BYTES: usize = 16_384;

@@ -2,6 +2,7 @@
 //! lower-case hex, two digits each, cells with four digits, `-` where there are
 //! none, numbers in decimal.
 
+use crate::admission::Closed;
 use crate::instruction::Instruction;
 use crate::machine::{Answer, State, Status};
 use crate::pack::Entry;
@@ -130,6 +131,18 @@ pub fn find_answer(answer: &Result<(Entry, &[u8]), u32>) -> String {
     }
 }
 
+/// What `stream` answers to a close, and to an ask after it.
+pub fn closed_answer(answer: &Closed) -> String {
+    match answer {
+        Ok(verdicts) => {
+            let each = |(tag, it): &(u16, Verdict)| format!(" {tag} {}", verdict(it));
+            let all: String = verdicts.iter().map(each).collect();
+            format!("good {}{all}", verdicts.len())
+        }
+        Err(number) => format!("refused {number}"),
+    }
+}
+
 /// The answer of `report`: each line feed as `|`.
 pub fn report_answer(report: &str) -> String {
     or_none(report.replace('\n', "|"))
@@ -138,6 +151,7 @@ pub fn report_answer(report: &str) -> String {
 #[cfg(test)]
 mod tests {
     use super::*;
+    use crate::admission::Admission;
     use crate::instruction::{decode, encode};
     use crate::machine::{run, FRESH};
     use crate::pack;
@@ -213,5 +227,24 @@ mod tests {
         assert_eq!(find_answer(&pack::lookup(&bytes[..13], 7)), "refused 34");
         assert_eq!(report_answer(&report(&bytes)), "0007 accepted|");
         assert_eq!(report_answer(&report(&[0, 0])), "-");
+    }
+
+    /// The protocol's own example; then two programs refused, and a second close.
+    #[test]
+    fn closed_lines() {
+        let mut admission = Admission::default();
+        let bytes = [1, 0, 7, 0, 2, 0, 0x0A, 0, 4, 0, 0x85, 0x83, 0x15, 0];
+        assert_eq!(admission.chunk(&bytes), Ok(()));
+        assert_eq!(closed_answer(&admission.close()), "good 1 7 accepted");
+        assert_eq!(closed_answer(&admission.close()), "refused 37");
+        let both = [
+            2, 0, 1, 0, 0, 0, 18, 0, 0, 0, 255, 0, 0, 0, 18, 0, 1, 0, 0x7F,
+        ];
+        let mut admission = Admission::default();
+        assert_eq!(admission.chunk(&both), Ok(()));
+        assert_eq!(
+            closed_answer(&admission.close()),
+            "good 2 1 refused 1 0 255 refused 2 0"
+        );
     }
 }

@@ -1,35 +1,32 @@
 //! What the thin program prints for a pack (01, "Rule pack").
 
-use crate::numbers::UNMET;
-use crate::pack;
-use crate::verifier::{verify, Verdict};
+use crate::verdicts::verdicts;
+use crate::verifier::Verdict;
 
 /// 01: "prints `TTTT accepted` or `TTTT refused N at AAAA` for each entry, or only
 /// `pack refused N` (tag and address as four upper-case hex digits, N decimal, a
 /// line feed after each)."
-pub fn report(bytes: &[u8]) -> String {
-    let entries = match pack::entries(bytes) {
-        Ok(entries) => entries,
-        Err(number) => return format!("pack refused {number}\n"),
-    };
-    let line = |entry: &pack::Entry| {
-        let program = pack::program(bytes, entry);
-        let mut map = vec![UNMET; program.len()];
-        let tag = entry.tag;
-        match verify(program, entry.cells.into(), &mut map) {
-            Verdict::Accepted => format!("{tag:04X} accepted\n"),
-            Verdict::RefusedAt(number, address) => {
-                format!("{tag:04X} refused {number} at {address:04X}\n")
-            }
-            Verdict::Refused(number) => unreachable!("{number} in a good pack"),
+pub fn report(pack: &[u8]) -> String {
+    match verdicts(pack) {
+        Ok(verdicts) => verdicts.iter().map(line).collect(),
+        Err(number) => format!("pack refused {number}\n"),
+    }
+}
+
+fn line((tag, verdict): &(u16, Verdict)) -> String {
+    match verdict {
+        Verdict::Accepted => format!("{tag:04X} accepted\n"),
+        Verdict::RefusedAt(number, address) => {
+            format!("{tag:04X} refused {number} at {address:04X}\n")
         }
-    };
-    entries.iter().map(line).collect()
+        Verdict::Refused(number) => unreachable!("{number} in a good pack"),
+    }
 }
 
 #[cfg(test)]
 mod tests {
     use super::*;
+    use crate::pack;
 
     #[test]
     fn the_example() {

@@ -22,6 +22,7 @@ mod packs;
 mod planted;
 mod programs;
 mod source;
+mod streams;
 mod tally;
 mod trial;
 mod verify;
@@ -80,8 +81,8 @@ impl Maker<'_> {
         let drawn = match self.large {
             true => self
                 .source
-                .one_of(&[0, 3, 6, 11, 17, 22, 24, 26, 28, 29, 31, 32]),
-            false => self.source.below(36),
+                .one_of(&[0, 3, 6, 11, 17, 22, 24, 26, 28, 29, 31, 32, 36]),
+            false => self.source.below(40),
         };
         match drawn {
             0 | 1 => self.decode(),
@@ -96,7 +97,8 @@ impl Maker<'_> {
             28 => self.find(),
             29 | 30 => self.writepack(),
             31 => self.report(),
-            _ => self.lookup(),
+            32..=35 => self.lookup(),
+            _ => self.stream(),
         }
     }
 }

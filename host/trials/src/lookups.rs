@@ -29,7 +29,7 @@ impl Maker<'_> {
 
     /// A pack of any number of entries, and the tags to ask it for: all of its own, or
     /// that of the entry which is spoiled.
-    fn pack_of_many(&mut self) -> (Vec<u8>, Vec<u16>) {
+    pub fn pack_of_many(&mut self) -> (Vec<u8>, Vec<u16>) {
         let mut parts = self.parts();
         let mut tags = parts.tags();
         let spoiled = self.source.below(12);

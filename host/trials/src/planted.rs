@@ -2,9 +2,11 @@
 //! one easy error.
 
 use conform::{
-    Decoded, Engine, Entry, Instruction, Number, Ran, Readings, Second, Shape, State, Status,
-    Verdict,
+    Decoded, Engine, Entry, Event, Instruction, Number, Ran, Readings, Reply, Second, Shape, State,
+    Status, Verdict,
 };
+
+use crate::maker::PACK_BYTES;
 
 /// The second implementation with an error.
 #[derive(Clone, Copy, Debug, PartialEq, Eq)]
@@ -17,6 +19,8 @@ pub enum Planted {
     Shape,
     /// A lookup does not come to the last entry.
     Lookup,
+    /// An admission counts no bytes behind contents that are bad.
+    Stream,
 }
 
 /// The code of ld-u16-offs.
@@ -27,10 +31,20 @@ const DATA_COPY: u8 = 0x02;
 const CALL: u8 = 0x3B;
 /// The refusal of a tag that is absent.
 const ABSENT: Number = 36;
+/// The refusal of a pack that is too long.
+const TOO_LONG: Number = 31;
+/// The refusal of a pack whose bodies do not end at its end.
+const WRONG_END: Number = 34;
 
 impl Planted {
     /// All of them.
-    pub const ALL: [Planted; 4] = [Planted::Sum, Planted::Copy, Planted::Shape, Planted::Lookup];
+    pub const ALL: [Planted; 5] = [
+        Planted::Sum,
+        Planted::Copy,
+        Planted::Shape,
+        Planted::Lookup,
+        Planted::Stream,
+    ];
 
     /// Its word on the command line.
     pub fn name(self) -> &'static str {
@@ -39,6 +53,7 @@ impl Planted {
             Planted::Copy => "copy",
             Planted::Shape => "shape",
             Planted::Lookup => "lookup",
+            Planted::Stream => "stream",
         }
     }
 }
@@ -108,6 +123,24 @@ fn lookup_but_last(pack: &[u8], tag: u16) -> Result<Entry, Number> {
         true => Err(ABSENT),
         false => Ok(found),
     }
+}
+
+/// An admission that does not come to 31 where the contents are refused by another number.
+fn stream_uncounted(events: &[Event]) -> Vec<Reply> {
+    let mut came = Vec::new();
+    for event in events.iter().take_while(|event| **event != Event::Close) {
+        if let Event::Chunk(chunk) = event {
+            came.extend(chunk);
+        }
+    }
+    came.truncate(PACK_BYTES);
+    let bad = Second.pack(&came).err();
+    let bad = bad.filter(|number| *number != WRONG_END);
+    let uncounted = |reply| match (reply, bad) {
+        (Reply::Refused(TOO_LONG), Some(number)) => Reply::Refused(number),
+        (reply, _) => reply,
+    };
+    Second.stream(events).into_iter().map(uncounted).collect()
 }
 
 impl Engine for Planted {
@@ -202,6 +235,13 @@ impl Engine for Planted {
     fn report(&self, pack: &[u8]) -> String {
         Second.report(pack)
     }
+
+    fn stream(&self, events: &[Event]) -> Vec<Reply> {
+        match self {
+            Planted::Stream => stream_uncounted(events),
+            _ => Second.stream(events),
+        }
+    }
 }
 
 #[cfg(test)]
@@ -277,6 +317,28 @@ mod tests {
                 b"lookup 4100070002000a00040085831500 7",
                 b"lookup 0000 7",
                 b"find 0100070002000a00040085831500 7",
+            ],
+        );
+    }
+
+    /// Contents of too many entries, in a pack that is as long as it may be, and longer.
+    #[test]
+    fn a_stream_wrong_in_one_place() {
+        let over = |contents, bytes| format!("stream {contents} {} close ask", "00".repeat(bytes));
+        let bad = over("4100", PACK_BYTES - 1);
+        let right = "ok ; ok ; refused 31 ; refused 31";
+        assert_eq!(answer(&Second, bad.as_bytes()), right);
+        let planted = answer(&Planted::Stream, bad.as_bytes());
+        assert_eq!(planted, "ok ; ok ; refused 30 ; refused 30");
+        alike(
+            Planted::Stream,
+            &[
+                over("4100", PACK_BYTES - 2).as_bytes(),
+                over("0000", PACK_BYTES - 1).as_bytes(),
+                over("0100070000000a000000", PACK_BYTES).as_bytes(),
+                b"stream 01 00070002000a00040085831500 close - ask",
+                b"stream 4100 close 00 close",
+                b"stream - ask",
             ],
         );
     }

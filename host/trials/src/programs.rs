@@ -30,7 +30,7 @@ impl Maker<'_> {
         }
         match self.source.below(16) {
             0 => self.any_bytes(length),
-            1 => self.stream(length, data),
+            1 => self.sequence(length, data),
             2..=4 => self.damaged(length, data),
             5 | 6 => self.bent(length, data),
             7..=9 => self.straight(length, data),
@@ -43,7 +43,7 @@ impl Maker<'_> {
     }
 
     /// Instructions that come one after the other, whatever the depth.
-    fn stream(&mut self, length: usize, data: usize) -> Program {
+    fn sequence(&mut self, length: usize, data: usize) -> Program {
         let lengths = Lengths {
             program: length,
             data,

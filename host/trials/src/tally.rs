@@ -13,7 +13,7 @@ pub struct Tally {
 }
 
 /// The families of the protocol, in its order.
-pub const FAMILIES: [&str; 13] = [
+pub const FAMILIES: [&str; 14] = [
     "decode",
     "encode",
     "shape",
@@ -27,6 +27,7 @@ pub const FAMILIES: [&str; 13] = [
     "lookup",
     "writepack",
     "report",
+    "stream",
 ];
 
 /// The row of lines that are no cases.
@@ -89,6 +90,7 @@ fn classed(line: &[u8], answer: &str) -> (&'static str, Kind) {
         None => (COPIED, Kind::Good("as it stands")),
         Some("report") => ("report", report(answer)),
         Some("read") => ("read", read(answer)),
+        Some("stream") => ("stream", stream(answer)),
         Some(family) => (family, plain(answer)),
     }
 }
@@ -101,6 +103,7 @@ fn plain(answer: &str) -> Kind {
         Some("found") => Kind::Good("found"),
         Some("row") => Kind::Good("row"),
         Some("illegal") => Kind::Good("illegal"),
+        Some("open") => Kind::Good("open"),
         _ => done(words.nth(3)),
     }
 }
@@ -131,6 +134,17 @@ fn report(answer: &str) -> Kind {
         None if answer == "-" => Kind::Good("nothing"),
         None if answer.contains(" refused ") => Kind::Good("some refused"),
         None => Kind::Good("all accepted"),
+    }
+}
+
+/// By the last of the answers; of a good pack, whether all of its programs were accepted.
+fn stream(answer: &str) -> Kind {
+    let last = answer.rsplit(" ; ").next().unwrap_or_default();
+    match last.strip_prefix("good ") {
+        None => plain(last),
+        Some("0") => Kind::Good("nothing"),
+        Some(verdicts) if verdicts.contains(" refused ") => Kind::Good("some refused"),
+        Some(_) => Kind::Good("all accepted"),
     }
 }
 
@@ -177,7 +191,7 @@ mod tests {
 
     #[test]
     fn kinds_of_answers() {
-        let kinds: [(&[u8], &str, &str, Kind); 16] = [
+        let kinds: [(&[u8], &str, &str, Kind); 21] = [
             (
                 b"decode 00 0",
                 "ok 1 0 0 0 0 0 0 0 0",
@@ -226,6 +240,21 @@ mod tests {
                 b"report a",
                 "0001 accepted|0002 refused 1 at 0000|",
                 "report",
+                Kind::Good("some refused"),
+            ),
+            (b"stream a", "ok ; open", "stream", Kind::Good("open")),
+            (b"stream a", "open ; ok", "stream", Kind::Good("ok")),
+            (
+                b"stream a",
+                "ok ; refused 31 ; refused 37",
+                "stream",
+                Kind::Refused(37),
+            ),
+            (b"stream a", "ok ; good 0", "stream", Kind::Good("nothing")),
+            (
+                b"stream a",
+                "ok ; good 2 1 accepted 9 refused 1 0",
+                "stream",
                 Kind::Good("some refused"),
             ),
             (b"run", "bad case", NO_CASE, Kind::Good(BAD_CASE)),

@@ -31,7 +31,7 @@ fn the_same_seed_gives_the_same_cases() {
 }
 
 /// The refusals and faults that 01 has for each family.
-const NUMBERS: [(&str, &[u32], &[u32]); 13] = [
+const NUMBERS: [(&str, &[u32], &[u32]); 14] = [
     ("decode", &[1, 2, 3, 20], &[]),
     ("encode", &[25, 26], &[]),
     ("shape", &[], &[]),
@@ -45,10 +45,11 @@ const NUMBERS: [(&str, &[u32], &[u32]); 13] = [
     ("lookup", &[30, 31, 34, 35, 36], &[]),
     ("writepack", &[25, 30, 31, 32, 34, 35], &[]),
     ("report", &[30, 31, 32, 33, 34, 35], &[]),
+    ("stream", &[30, 31, 32, 33, 34, 35, 37], &[]),
 ];
 
 /// The other answers of each family.
-const GOOD: [(&str, &[&str]); 15] = [
+const GOOD: [(&str, &[&str]); 16] = [
     ("decode", &["ok"]),
     ("encode", &["ok"]),
     ("shape", &["illegal", "row"]),
@@ -62,6 +63,10 @@ const GOOD: [(&str, &[&str]); 15] = [
     ("lookup", &["found"]),
     ("writepack", &["ok"]),
     ("report", &["all accepted", "nothing", "some refused"]),
+    (
+        "stream",
+        &["all accepted", "nothing", "ok", "open", "some refused"],
+    ),
     (NO_CASE, &["bad case"]),
     (COPIED, &["as it stands"]),
 ];
@@ -124,6 +129,7 @@ fn at_the_limits_and_past_them() {
     numbers_at_the_limits(&lines);
     all_first_bytes(&lines);
     all_counts(&lines);
+    streams_of_every_kind(&lines);
 }
 
 fn sizes_at_the_limits(lines: &[Vec<u8>]) {
@@ -158,13 +164,50 @@ fn all_first_bytes(lines: &[Vec<u8>]) {
 /// Tags are looked up in packs of every number of entries, and of one too many.
 fn all_counts(lines: &[Vec<u8>]) {
     let counts = fields(lines, "lookup", 0).filter_map(|pack| pack.get(..4));
-    let found: BTreeSet<&[u8]> = counts.collect();
+    every_count(counts.map(Vec::from).collect());
+}
+
+fn every_count(found: BTreeSet<Vec<u8>>) {
     for count in 0..=65 {
+        let digits = format!("{count:02x}00");
+        assert!(found.contains(digits.as_bytes()), "{count}");
+    }
+}
+
+/// The events of a stream.
+fn events(line: &[u8]) -> Option<Vec<&[u8]>> {
+    let events = line.strip_prefix(b"stream ")?;
+    Some(events.split(|&byte| byte == b' ').collect())
+}
+
+/// The chunks of a stream before its close, in hex, one behind the other.
+fn came(events: &[&[u8]]) -> Vec<u8> {
+    let before = events.iter().take_while(|event| **event != b"close");
+    let chunks = before.filter(|event| !matches!(**event, b"ask" | b"-"));
+    chunks.copied().collect::<Vec<_>>().concat()
+}
+
+/// About one case in ten is a stream. Packs come with every number of entries, as long as
+/// they may be and longer; whole, byte by byte and closed too soon.
+fn streams_of_every_kind(lines: &[Vec<u8>]) {
+    let streams: Vec<Vec<&[u8]>> = lines.iter().filter_map(|line| events(line)).collect();
+    assert!((9..=11).contains(&(100 * streams.len() / lines.len())));
+    let packs: Vec<Vec<u8>> = streams.iter().map(|events| came(events)).collect();
+    let counts = packs.iter().filter_map(|pack| pack.get(..4));
+    every_count(counts.map(Vec::from).collect());
+    for length in [0, 2, 24_575, 24_576, 24_577] {
         assert!(
-            found.contains(format!("{count:02x}00").as_bytes()),
-            "{count}"
+            packs.iter().any(|pack| pack.len() == 2 * length),
+            "{length}"
         );
     }
+    let some = |is: &dyn Fn(&[&[u8]]) -> bool| streams.iter().filter(|it| is(it)).count();
+    let ends = |word: &[u8]| some(&|events| events.ends_with(&[b"close", word]));
+    assert!(ends(b"-") > 100 && ends(b"close") > 100 && ends(b"ask") > 100);
+    assert!(some(&|events| events.iter().any(|event| event.len() > 100_000)) > 0);
+    assert!(some(&|events| events.len() > 10_000) > 0);
+    let apart = |event: &&[u8]| matches!(event.len(), 1 | 2) || matches!(*event, b"ask" | b"close");
+    assert!(some(&|events| events.len() > 10 && events.iter().all(apart)) > 1_000);
 }
 
 fn numbers_at_the_limits(lines: &[Vec<u8>]) {

@@ -96,6 +96,77 @@ fn lookups_in_good_packs_are_finds() {
     assert!(asked >= 4_000, "{asked}");
 }
 
+/// Where bytes behind bad contents are counted.
+#[test]
+fn a_planted_stream_is_noticed() {
+    for difference in noticed(Planted::Stream, &["stream"]) {
+        let [proved, planted] = &difference.answers;
+        assert!(proved.contains("refused 31") && !planted.contains("refused 31"));
+    }
+}
+
+/// Of the proved library alone: a close answers as the report of the whole pack, wherever
+/// it was cut.
+#[test]
+fn streams_are_reports() {
+    let cases = Cases::new(SEED);
+    let (mut good, mut refused) = (0, 0);
+    for line in (0..10 * COUNT).map(|number| cases.case(number)) {
+        let answer_of_close = match close_of(&line) {
+            Some(answer) => answer,
+            None => continue,
+        };
+        let whole = [&b"report "[..], &whole(&line)].concat();
+        assert_eq!(answer_of_close, as_closed(&answer(&Proved, &whole)));
+        match answer_of_close.starts_with("good ") {
+            true => good += 1,
+            false => refused += 1,
+        }
+    }
+    assert!(good >= 4_000 && refused >= 2_000, "{good} {refused}");
+}
+
+/// What the first close of a stream is answered.
+fn close_of(line: &[u8]) -> Option<String> {
+    let mut events = line.strip_prefix(b"stream ")?.split(|&byte| byte == b' ');
+    let place = events.position(|event| event == b"close")?;
+    let answers = answer(&Proved, line);
+    answers.split(" ; ").nth(place).map(String::from)
+}
+
+/// What came before it, as one field.
+fn whole(line: &[u8]) -> Vec<u8> {
+    let events = line.split(|&byte| byte == b' ').skip(1);
+    let before = events.take_while(|event| event != b"close");
+    let chunks = before.filter(|event| event != b"ask" && event != b"-");
+    match chunks.collect::<Vec<_>>().concat() {
+        none if none.is_empty() => b"-".to_vec(),
+        bytes => bytes,
+    }
+}
+
+/// A report as a close answers: `0007 refused 1 at 000A|` is ` 7 refused 1 10`.
+fn as_closed(report: &str) -> String {
+    if let Some(refusal) = report.strip_prefix("pack refused ") {
+        return format!("refused {}", refusal.trim_end_matches('|'));
+    }
+    let lines: Vec<&str> = report
+        .split_terminator('|')
+        .filter(|it| *it != "-")
+        .collect();
+    let number = |hex: &str| u16::from_str_radix(hex, 16).unwrap();
+    let verdict = |line: &&str| {
+        let (tag, said) = line.split_once(' ').unwrap();
+        let said = match said.split_once(" at ") {
+            Some((refused, at)) => format!("{refused} {}", number(at)),
+            None => said.to_string(),
+        };
+        format!(" {} {said}", number(tag))
+    };
+    let verdicts: String = lines.iter().map(verdict).collect();
+    format!("good {}{verdicts}", lines.len())
+}
+
 /// The program, under the emulator by which cargo runs programs of another processor.
 fn differ(words: &[&str]) -> Output {
     let program = env!("CARGO_BIN_EXE_differ");

@@ -2,6 +2,7 @@
 
 mod proved;
 mod second;
+mod watched;
 
 pub use self::second::Second;
 pub use proved::Proved;

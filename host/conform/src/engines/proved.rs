@@ -1,9 +1,11 @@
 //! The proved library.
 
+use super::watched::Watched;
 use crate::engine::{
-    Decoded, Engine, Entry, Instruction, Number, Ran, Readings, Shape, State, Status, Verdict,
+    Decoded, Engine, Entry, Event, Instruction, Number, Ran, Readings, Reply, Shape, State, Status,
+    Verdict,
 };
-use khalixoshi::{pack, Error, Fault, Reader};
+use khalixoshi::{pack, Error, Fault, Reader, Refused};
 
 /// The proved library, by its face for Rust.
 #[derive(Clone, Copy, Debug, Default)]
@@ -50,10 +52,7 @@ impl Engine for Proved {
     }
 
     fn verify(&self, program: &[u8], cells: usize, map: &mut [u16]) -> Verdict {
-        match khalixoshi::verify(program, cells, map) {
-            Ok(()) => Verdict::Accepted,
-            Err(refused) => Verdict::Refused(refused.error.number(), refused.at),
-        }
+        verdict(khalixoshi::verify(program, cells, map))
     }
 
     fn listing(&self, program: &[u8], room: &mut [u8]) -> Result<usize, Number> {
@@ -96,6 +95,18 @@ impl Engine for Proved {
 
     fn report(&self, pack: &[u8]) -> String {
         khalixoshi::verdicts(pack)
+    }
+
+    fn stream(&self, events: &[Event]) -> Vec<Reply> {
+        let mut watched = Watched::default();
+        events.iter().map(|event| watched.reply(event)).collect()
+    }
+}
+
+pub fn verdict(answer: Result<(), Refused>) -> Verdict {
+    match answer {
+        Ok(()) => Verdict::Accepted,
+        Err(refused) => Verdict::Refused(refused.error.number(), refused.at),
     }
 }
 

@@ -1,8 +1,10 @@
 //! The second implementation.
 
 use crate::engine::{
-    Decoded, Engine, Entry, Instruction, Number, Ran, Readings, Shape, State, Status, Verdict,
+    Decoded, Engine, Entry, Event, Instruction, Number, Ran, Readings, Reply, Ruling, Shape, State,
+    Status, Verdict,
 };
+use ::second::admission::{Admission, Closed};
 use ::second::{instruction, listing, machine, pack, reader, report, shape, verifier};
 
 /// The second implementation, which shares no code with the proved library.
@@ -50,13 +52,7 @@ impl Engine for Second {
     }
 
     fn verify(&self, program: &[u8], cells: usize, map: &mut [u16]) -> Verdict {
-        match verifier::verify(program, cells, map) {
-            verifier::Verdict::Accepted => Verdict::Accepted,
-            verifier::Verdict::Refused(refusal) => Verdict::Refused(number(refusal), None),
-            verifier::Verdict::RefusedAt(refusal, at) => {
-                Verdict::Refused(number(refusal), Some(at))
-            }
-        }
+        verdict(verifier::verify(program, cells, map))
     }
 
     fn listing(&self, program: &[u8], room: &mut [u8]) -> Result<usize, Number> {
@@ -100,6 +96,12 @@ impl Engine for Second {
     fn report(&self, pack: &[u8]) -> String {
         report::report(pack)
     }
+
+    fn stream(&self, events: &[Event]) -> Vec<Reply> {
+        let mut admission = Admission::default();
+        let reply = |event| reply(&mut admission, event);
+        events.iter().map(reply).collect()
+    }
 }
 
 fn number(number: u32) -> Number {
@@ -118,6 +120,36 @@ fn decoded(answer: Result<(instruction::Instruction, usize), u32>) -> Result<Dec
         },
         length,
     })
+}
+
+fn verdict(verdict: verifier::Verdict) -> Verdict {
+    match verdict {
+        verifier::Verdict::Accepted => Verdict::Accepted,
+        verifier::Verdict::Refused(refusal) => Verdict::Refused(number(refusal), None),
+        verifier::Verdict::RefusedAt(refusal, at) => Verdict::Refused(number(refusal), Some(at)),
+    }
+}
+
+fn reply(admission: &mut Admission, event: &Event) -> Reply {
+    match event {
+        Event::Chunk(chunk) => match admission.chunk(chunk) {
+            Ok(()) => Reply::Taken,
+            Err(refusal) => Reply::Refused(number(refusal)),
+        },
+        Event::Close => closed(&admission.close()),
+        Event::Ask => admission.answer().map_or(Reply::Open, closed),
+    }
+}
+
+fn closed(answer: &Closed) -> Reply {
+    let ruling = |&(tag, it): &(u16, verifier::Verdict)| Ruling {
+        tag,
+        verdict: verdict(it),
+    };
+    match answer {
+        Ok(verdicts) => Reply::Good(verdicts.len(), verdicts.iter().map(ruling).collect()),
+        Err(refusal) => Reply::Refused(number(*refusal)),
+    }
 }
 
 fn entry(entry: &pack::Entry) -> Entry {

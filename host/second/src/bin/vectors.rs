@@ -6,6 +6,7 @@
 //! vectors machine DIR        the run
 //! vectors verify DIR         the verifier
 //! vectors pack DIR           packs
+//! vectors admission DIR      packs that come in chunks
 //! vectors listing DIR        the listing and the reader
 //! vectors check KIND DIR
 //! vectors reports DIR        packs that the thin program reads
@@ -19,7 +20,7 @@ use std::path::Path;
 use std::process::ExitCode;
 use std::{env, fs, io};
 
-use second::cases::{isa, listing, machine, pack, reports, verify, Vectors};
+use second::cases::{admission, isa, listing, machine, pack, reports, verify, Vectors};
 
 fn main() -> ExitCode {
     let arguments: Vec<String> = env::args().skip(1).collect();
@@ -29,7 +30,7 @@ fn main() -> ExitCode {
         ["reports", directory] => write_reports(directory.as_ref()),
         [kind, directory] => made(kind).and_then(|it| write(&it, directory.as_ref())),
         _ => Err(
-            "usage: vectors [check] isa|machine|verify|pack|listing DIR, vectors reports DIR"
+            "usage: vectors [check] isa|machine|verify|pack|admission|listing DIR, vectors reports DIR"
                 .to_string(),
         ),
     };
@@ -49,6 +50,7 @@ fn made(kind: &str) -> Result<Vectors, String> {
         "machine" => Ok(machine::vectors()),
         "verify" => Ok(verify::vectors()),
         "pack" => Ok(pack::vectors()),
+        "admission" => Ok(admission::vectors()),
         "listing" => Ok(listing::vectors()),
         _ => Err(format!("no cases of kind {kind}")),
     }

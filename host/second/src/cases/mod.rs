@@ -2,6 +2,7 @@
 //! compact binary form, one after the other, with this implementation's answers
 //! as lines of text, one a case. The same call always makes the same cases.
 
+pub mod admission;
 mod assembler;
 mod fields;
 pub mod isa;
@@ -38,17 +39,15 @@ impl Vectors {
         self.answers("")
     }
 
-    /// How many answers are refusals.
+    /// In how many cases something is refused.
     pub fn refused(&self) -> usize {
         self.answers("refused ")
     }
 
-    /// How many answers begin with these words.
+    /// How many cases have an answer that begins with these words.
     pub fn answers(&self, words: &str) -> usize {
-        self.stdout
-            .lines()
-            .filter(|line| line.starts_with(words))
-            .count()
+        let begins = |line: &&str| line.split(" ; ").any(|answer| answer.starts_with(words));
+        self.stdout.lines().filter(begins).count()
     }
 }
 

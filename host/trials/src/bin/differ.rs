@@ -24,7 +24,8 @@ library's answers.
                     load adds its operands modulo 65,536; copy, dcopy reads bytes that
                     it has written; shape, the row of call-imm8 has its values taken
                     and pushed exchanged; lookup, halving does not come to the last
-                    entry of a pack
+                    entry of a pack; stream, an admission counts no bytes behind
+                    contents that are bad, so that 31 does not come first
   --print           prints the cases and asks nobody, for `khx conform`
   --without FAMILY  leaves out those that begin with this word: lookup is no case of
                     the published protocol

@@ -27,7 +27,7 @@ pub fn add_all(vectors: &mut Vectors) {
 }
 
 /// Four entries whose bodies make a pack of the first length; it has the second.
-fn longest(meant: usize, length: usize) -> [Piece; 2] {
+pub fn longest(meant: usize, length: usize) -> [Piece; 2] {
     let start = 2 + 8 * 4;
     let mut left = meant - start;
     let mut offset = start;
