@@ -350,7 +350,10 @@ static inline uint16_t khx_admission_tag(const khx_admission *admission, size_t 
     return index < khx_admission_ask(admission).verdicts ? admission->verdicts[3 * index] : (uint16_t)0;
 }
 
-/* The verdict at an index. Refusals: 91 where the index is not below `verdicts` of the answer; then the program's own. */
+/*
+ * The verdict at an index, provisional before the close. Refusals: 91 where the index is not below `verdicts` of the answer; then
+ * the program's own.
+ */
 static inline khx_verdict khx_admission_verdict(const khx_admission *admission, size_t index)
 {
     khx_verdict verdict = {KHX_ADMISSION_DAMAGED, 0};
