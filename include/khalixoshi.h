@@ -165,8 +165,8 @@ typedef struct khx_entry {
 /*
  * How an admission stands: by 90 and 91 all else is 0, by any other refusal it is told as without one. `closed` is 1 after the
  * close and 0 before it. `verdicts` is how many programs have their verdict, at most KHX_ENTRIES_MAX: provisional ones before the
- * close, final ones after it, and none of a pack that is refused or lost. Where `lost` is not 0 the pack is refused whatever
- * follows, by this number, or by 31 if it comes to over KHX_PACK_MAX bytes: a host may stop there.
+ * close, final ones after it, and none of a pack that the close refused. Where `lost` is not 0 the pack is refused whatever
+ * follows, by this number, or by 31 if it comes to over KHX_PACK_MAX bytes: a host may stop there, and close.
  */
 typedef struct khx_admitted {
     size_t refusal;
@@ -350,7 +350,10 @@ static inline uint16_t khx_admission_tag(const khx_admission *admission, size_t 
     return index < khx_admission_ask(admission).verdicts ? admission->verdicts[3 * index] : (uint16_t)0;
 }
 
-/* The verdict at an index. Refusals: 91 where the index is not below `verdicts` of the answer; then the program's own. */
+/*
+ * The verdict at an index, provisional before the close. Refusals: 91 where the index is not below `verdicts` of the answer; then
+ * the program's own.
+ */
 static inline khx_verdict khx_admission_verdict(const khx_admission *admission, size_t index)
 {
     khx_verdict verdict = {KHX_ADMISSION_DAMAGED, 0};

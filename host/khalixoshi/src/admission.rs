@@ -207,7 +207,7 @@ impl Admission {
     }
 
     /// The verdicts that are known, in the pack's order: provisional before the close, final
-    /// after it, none of a pack that is refused or lost.
+    /// after it, none of a pack that the close refused.
     pub fn verdicts(&self) -> impl Iterator<Item = Ruling> + '_ {
         let known = c::admit_ask(&self.numbers).verdicts;
         self.verdicts.chunks_exact(CELLS).take(known).map(ruling)
@@ -282,8 +282,8 @@ mod tests {
         [600, 514, 65, 0, 0, 0, 0, 0],
         [600, 514, 64, 0, 65, 0, 0, 0],
         [600, 514, 64, 0, 0, 16_385, 0, 0],
-        [600, 514, 64, 0, 0, 0, 29, 0],
-        [600, 514, 64, 0, 0, 0, 36, 0],
+        [600, 514, 0, 0, 0, 0, 29, 0],
+        [600, 514, 0, 0, 0, 0, 36, 0],
         [600, 514, 64, 0, 1, 0, 30, 0],
         [600, 514, 64, 0, 0, 0, 0, 2],
         [1, 2, 1, 0, 0, 0, 0, 0],

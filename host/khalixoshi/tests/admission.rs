@@ -201,7 +201,7 @@ fn verdicts_are_withdrawn() {
 
     let mut admission = fed([NIGHTLY]);
     assert_eq!(admission.verdicts().count(), 10);
-    assert_eq!(admission.feed(&[0; PACK_MAX]), Ok(0));
+    admission.feed(&[0; PACK_MAX]).unwrap();
     assert_eq!(admission.lost(), Some(Error::PackSize));
     assert_eq!(admission.close(), Err(Error::PackSize));
     assert_eq!(admission.verdicts().count(), 0);

@@ -124,8 +124,8 @@ fn withdrawn_by_too_many_bytes() {
     coming.tells("provisional: 0009 accepted");
     coming.send(&[0; 24_576 - 20]);
     coming.send(&[0]);
-    coming.tells("withdrawn: 2 provisional verdicts");
     coming.tells("lost: the pack is refused, whatever follows: 31: the pack is over 24,576 bytes");
+    coming.tells("withdrawn: 2 provisional verdicts");
     coming.ends_by_itself(
         1,
         "pack refused 31\n\n31: the pack is over 24,576 bytes\n  split it\n",
