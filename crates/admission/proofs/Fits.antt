@@ -28,7 +28,7 @@ use Rattle.admission.specs.Fit.{Sound, Fit}
 use Rattle.admission.specs.declared.Admission.{Admission}
 
 -- the verifier keeps the length of the map
-verified-length : (p : List ℕ) (cells : ℕ) (d : List ℕ) → length (verifyOf p cells d .1) ≡ length d
+pub verified-length : (p : List ℕ) (cells : ℕ) (d : List ℕ) → length (verifyOf p cells d .1) ≡ length d
 unfolding verifyOf
 verified-length p cells d = by (ltb 16384 (length p)) (ltb 1024 cells) (eqb (length d) (length p)) refl
   where

@@ -26,7 +26,7 @@ use Rattle.streams.proofs.Judging.{next-is}
 
 -- what a close tells, by the refusal of the numbers
 module _ (st : Admission) (whole : damagedOf st ≡ false) (live : st .closed ≡ 0) where
-  close-is : closeOf st ≡ endedOf st
+  pub close-is : closeOf st ≡ endedOf st
   unfolding closeOf
   close-is = rw (whole, eq-eqb (st .closed) 0 live)
 
@@ -62,7 +62,7 @@ read-good : (s : List ℕ) (end : ℕ) → length s ≤ 24576 → contentsOf s �
 unfolding readOf
 read-good s end h e n = rw (le-ltb _ _ h, e, eq-eqb _ _ n)
 
-cut-refused : (s : List ℕ) (m : Mach) → Cut s m → contentsOf s ≡ refused 30
+pub cut-refused : (s : List ℕ) (m : Mach) → Cut s m → contentsOf s ≡ refused 30
 unfolding contentsOf
 cut-refused s m k = by (ltb (length s) 2) refl
   where

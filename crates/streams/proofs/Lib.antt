@@ -3,3 +3,6 @@ pub mod Kept
 pub mod Judging
 pub mod Coming
 pub mod Closing
+pub mod Ending
+pub mod Within
+pub mod Streams

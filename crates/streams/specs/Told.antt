@@ -1,12 +1,16 @@
 -- What an admission tells of a pack that comes in chunks: the verdicts in the lent cells, and the answer of the close.
-use Prim.Native.Nat.{ℕ, zero, suc, _+_, _*_}
+use Prim.Native.Nat.{ℕ, zero, suc, _+_, _*_, _≤_, _<_}
+use mathlib.Core.Path.{_≡_}
 use mathlib.Core.List.{List, [], _∷_, _++_}
-use lib.ListN.{getD}
+use lib.ListN.{length, getD, drop}
 use lib.Dec.{eqb}
 use Rattle.basis.specs.Pick.{pick}
 use Rattle.basis.specs.Answer.{Answer, given, refused}
+use Rattle.pack.specs.Contents.{entryAt}
+use Rattle.pack.specs.Read.{countOf, contentsOf}
 use Rattle.verifier.specs.Verify.{Judged, good, names}
 use Rattle.rulings.specs.Rulings.{Ruling}
+use Rattle.admission.specs.Numbers.{startOf}
 use Rattle.admission.specs.Admission.{Mach, admitOf, closeOf}
 use Rattle.admission.specs.declared.Admitted.{Admitted}
 
@@ -28,6 +32,33 @@ toldBy r cells = pick (eqb (r .refusal) 0) (given (ruledFrom cells 0 (r .admissi
 
 abbrev pub closedOf : Mach → Answer (List Ruling)
 closedOf m = toldBy (closeOf (m .st)) (m .verdicts)
+
+-- an admission that was begun, with enough memory, whatever it holds: 514 bytes of contents, 16,384 of a body, as many cells of a map, and three for
+-- each of 64 verdicts. Nothing of it grows with the pack.
+pub record Begun (m : Mach) : Type 0 where
+  pub start : m .st ≡ startOf
+  pub contents : 514 ≤ length (m .contents)
+  pub body : 16384 ≤ length (m .body)
+  pub map : 16384 ≤ length (m .map)
+  pub verdicts : 192 ≤ length (m .verdicts)
+
+-- no length changes, and nothing past a size is touched
+abbrev pub Same : ℕ → List ℕ → List ℕ → Type 0
+Same size before after = (length after ≡ length before) × (drop size after ≡ drop size before)
+
+-- "keeping only the contents and one body at a time": of the memory lent, that is all that is written over
+pub record Within (before after : Mach) : Type 0 where
+  pub contents : Same 514 (before .contents) (after .contents)
+  pub body : Same 16384 (before .body) (after .body)
+  pub map : Same 16384 (before .map) (after .map)
+  pub verdicts : Same 192 (before .verdicts) (after .verdicts)
+
+-- the program at an index is whole: the contents are good, and its last byte is in
+pub record Whole (s : List ℕ) (j : ℕ) : Type 0 where
+  pub end : ℕ
+  pub good : contentsOf s ≡ given end
+  pub few : j < countOf s
+  pub fits : entryAt s (2 + 8 * j) .offset + entryAt s (2 + 8 * j) .length ≤ length s
 
 -- chunks one after the other, and all their bytes
 abbrev pub admitAll : List (List ℕ) → Mach → Mach
