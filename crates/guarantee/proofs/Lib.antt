@@ -7,3 +7,4 @@ pub mod Marked
 pub mod Copies
 pub mod Shapes
 pub mod Tags
+pub mod Downloads

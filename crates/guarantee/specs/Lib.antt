@@ -4,3 +4,4 @@ pub mod Marked
 pub mod Copies
 pub mod Shapes
 pub mod Tags
+pub mod Downloads

@@ -11,7 +11,7 @@ use lib.ListN.{length}
 use borrow.Author.Tests.{lt-ltb, le-ltb, eq-eqb, ne-eqb, ltb-true, ltb-false}
 use Rattle.basis.specs.Pick.{pick}
 use Rattle.basis.specs.Answer.{given, refused}
-use Rattle.basis.proofs.Tests.{same?, test}
+use Rattle.basis.proofs.Tests.{same?, test, refused-given, refused-one}
 use Rattle.pack.specs.Contents.{firstOf, entriesFrom, endOf}
 use Rattle.pack.specs.Read.{countOf, entriesOf, contentsOf, readOf}
 use Rattle.pack.proofs.Walks.{end-ge}
@@ -20,9 +20,23 @@ use Rattle.rulings.proofs.Answers.{rulings-refused, rulings-given}
 use Rattle.admission.specs.Numbers.{admits, withdraws, damagedOf}
 use Rattle.admission.specs.Admission.{Mach, answered, closingOf, endedOf, closeOf}
 use Rattle.admission.specs.declared.Admission.{Admission}
+use Rattle.admission.specs.declared.Admitted.{Admitted}
 use Rattle.streams.specs.Told.{ruledFrom, toldBy, closedOf}
 use Rattle.streams.specs.Stands.{entryOf, Cut, Bad, Done, Ready, Short, Part, cut, bad, good, Stands, over, some}
 use Rattle.streams.proofs.Judging.{next-is}
+
+-- what is told as refused was refused by that number
+pub told-number : (r : Admitted) (cells : List ℕ) (k : ℕ) → toldBy r cells ≡ refused k → r .refusal ≡ k
+unfolding toldBy
+told-number r cells k e =
+    ⊎-elim
+    (λ t. absurd (refused-given k (ruledFrom cells 0 (r .admission .judged)) (sym (rw t at e))))
+    (λ t. refused-one (r .refusal) k (rw t at e))
+    (test (eqb (r .refusal) 0))
+
+pub told-nonzero : (r : Admitted) (cells : List ℕ) (k : ℕ) → toldBy r cells ≡ refused k → r .refusal ≡ 0 → ⊥
+unfolding toldBy
+told-nonzero r cells k e z = refused-given k (ruledFrom cells 0 (r .admission .judged)) (sym (rw (eq-eqb (r .refusal) 0 z) at e))
 
 -- what a close tells, by the refusal of the numbers
 module _ (st : Admission) (whole : damagedOf st ≡ false) (live : st .closed ≡ 0) where

@@ -50,6 +50,13 @@ ended-shut st s =
       closed = refl;
     })
 
+pub ended-packs : (st : Admission) → Sound st → (endedOf st .refusal ≡ 0) ⊎ ((30 ≤ endedOf st .refusal) × (endedOf st .refusal ≤ 35))
+unfolding endedOf
+ended-packs st s =
+    pick-cases (λ (a : Admitted). (a .refusal ≡ 0) ⊎ ((30 ≤ a .refusal) × (a .refusal ≤ 35))) (eqb (closingOf st) 0) (answered 0 (admits st)) (answered (closingOf st) (withdraws (closingOf st) st))
+    (λ h. inl refl)
+    (λ h. inr (closing-packs st s (eqb-false _ _ h)))
+
 -- what was told is what is asked for afterwards, and a refused pack has no verdicts
 pub ended-told : (st : Admission) → (endedOf st .admission .refusal ≡ endedOf st .refusal) × ((endedOf st .refusal ≡ 0 → ⊥) → endedOf st .admission .judged ≡ 0)
 unfolding endedOf

@@ -1,0 +1,107 @@
+-- Request No. 1, sentence by sentence: "Readers on slow lines want a verdict the moment the last byte comes, without holding the pack. Admit a pack in
+-- chunks of any length, zero too, keeping only the contents and one body at a time. At the close, each program's verdict and the pack's own answer
+-- equal those of the whole pack, wherever it was cut. Verdicts before the close are provisional, 31 still comes first, and a refused pack has no
+-- verdicts. Refusals: 37 a chunk or a second close after the close, which changes nothing."
+--
+-- `m` is an admission with its lent memory, `Begun` says that it was begun and has enough of it, whatever it holds; `admitAll cs m` is it after the
+-- chunks `cs`, and `joined cs` are all their bytes. What a whole pack answers is `rulingsOf`: the refusal of its check, or for each program the tag and what
+-- the verifier says.
+use Prim.Native.Nat.{ℕ, _≤_, _<_}
+use mathlib.Core.Path.{_≡_}
+use mathlib.Core.Logic.{_⊎_}
+use mathlib.Core.Bool.{true, false}
+use mathlib.Core.List.{List, map, _++_}
+use mathlib.Core.Option.{some}
+use lib.ListN.{length, getElem?}
+use Rattle.basis.specs.Answer.{given, refused}
+use Rattle.pack.specs.Read.{readOf}
+use Rattle.pack.specs.declared.Entry.{Entry}
+use Rattle.rulings.specs.Rulings.{rulingOf, rulingsOf}
+use Rattle.admission.specs.Numbers.{damagedOf, lostOf}
+use Rattle.admission.specs.Admission.{Mach, mach, shortOf, chunkOf, admitOf, answered, closeOf, askOf}
+use Rattle.admission.specs.declared.Admission.{Admission}
+use Rattle.admission.specs.declared.Admitted.{Admitted}
+use Rattle.streams.specs.Told.{ruledAt, closedOf, Begun, Within, Whole, admitAll, joined}
+
+-- "Admit a pack in chunks of any length, zero too": before the close every chunk is taken, whatever came before it.
+unfoldable pub TakesAnyChunk : Type 0
+TakesAnyChunk = (cs : List (List ℕ)) (c : List ℕ) (m : Mach) → Begun m → admitOf c (admitAll cs m) .0 ≡ 0
+
+-- "keeping only the contents and one body at a time": a chunk, of whatever admission, writes nothing but 514 bytes of contents, 16,384 of a body, as many
+-- cells of a map and the 192 of the verdicts, however long the pack is.
+unfoldable pub KeepsOnlyThese : Type 0
+KeepsOnlyThese = (c : List ℕ) (m : Mach) → Within m (admitOf c m .1)
+
+-- "At the close, each program's verdict and the pack's own answer equal those of the whole pack, wherever it was cut."
+unfoldable pub ClosesAsWhole : Type 0
+ClosesAsWhole = (cs : List (List ℕ)) (m : Mach) → Begun m → closedOf (admitAll cs m) ≡ rulingsOf (joined cs)
+
+-- "want a verdict the moment the last byte comes": a program has its verdict exactly from when it is whole, one of no bytes too, as long as no more came
+-- than a pack has.
+unfoldable pub JudgesAtLastByte : Type 0
+JudgesAtLastByte =
+    (cs : List (List ℕ)) (m : Mach) → Begun m → length (joined cs) ≤ 24576
+    → (j : ℕ) → (j < admitAll cs m .st .judged → Whole (joined cs) j) × (Whole (joined cs) j → j < admitAll cs m .st .judged)
+
+-- "Verdicts before the close are provisional": whatever bytes follow, where the pack is then admitted, each verdict that was there is its program's final one,
+-- in the same place.
+unfoldable pub ProvisionalIsFinal : Type 0
+ProvisionalIsFinal =
+    (cs : List (List ℕ)) (rest : List ℕ) (es : List Entry) (m : Mach) → Begun m → readOf (joined cs ++ rest) ≡ given es
+    → (j : ℕ) → j < admitAll cs m .st .judged → getElem? (map (rulingOf (joined cs ++ rest)) es) j ≡ some (ruledAt (admitAll cs m .verdicts) j)
+
+-- "31 still comes first": whatever else is wrong with it.
+unfoldable pub LongComesFirst : Type 0
+LongComesFirst = (cs : List (List ℕ)) (m : Mach) → Begun m → 24576 < length (joined cs) → closeOf (admitAll cs m .st) .refusal ≡ 31
+
+-- "and a refused pack has no verdicts": the close refuses by the pack's own number, and no verdict is left.
+unfoldable pub RefusedHasNone : Type 0
+RefusedHasNone =
+    (cs : List (List ℕ)) (m : Mach) (k : ℕ) → Begun m → readOf (joined cs) ≡ refused k
+    → (closeOf (admitAll cs m .st) .refusal ≡ k) × (closeOf (admitAll cs m .st) .admission .judged ≡ 0)
+
+-- the admission as a close leaves it: no memory but its numbers changes
+abbrev pub shut : Mach → Mach
+shut m = mach (closeOf (m .st) .admission) (m .contents) (m .body) (m .map) (m .verdicts)
+
+-- "37 a chunk or a second close after the close, which changes nothing": and the answer of the first close is told again.
+pub record Late (m : Mach) : Type 0 where
+  pub chunk : (c : List ℕ) → admitOf c (shut m) ≡ (37, shut m)
+  pub close : closeOf (shut m .st) ≡ answered 37 (shut m .st)
+  pub ask : askOf (shut m .st) ≡ closeOf (m .st) .refusal
+
+unfoldable pub LateIsRefused : Type 0
+LateIsRefused = (cs : List (List ℕ)) (m : Mach) → Begun m → Late (admitAll cs m)
+
+-- Before the close the answer so far is none.
+unfoldable pub AsksOpen : Type 0
+AsksOpen = (cs : List (List ℕ)) (m : Mach) → Begun m → askOf (admitAll cs m .st) ≡ 0
+
+-- Where it is told that a pack is lost, it is refused whatever follows: by this number, or by 31 where more follows than a pack has.
+unfoldable pub LostIsRefused : Type 0
+LostIsRefused =
+    (cs : List (List ℕ)) (rest : List ℕ) (m : Mach) (k : ℕ) → Begun m → lostOf (admitAll cs m .st) ≡ k → (k ≡ 0 → ⊥)
+    → (readOf (joined cs ++ rest) ≡ refused k) ⊎ (readOf (joined cs ++ rest) ≡ refused 31)
+
+-- What holds of an admission that was not refused by 90 or 91, whatever was handed in: at most 64 programs have their verdict, and it is not damaged.
+pub record Bounded (st : Admission) : Type 0 where
+  pub whole : damagedOf st ≡ false
+  pub few : st .judged ≤ 64
+
+-- what a chunk answers of any numbers and any memory: 90, 91 or 37, each for its cause and with nothing changed, or it is taken
+pub data Chunk (c : List ℕ) (m : Mach) : Type 0 where
+  short : shortOf (m .contents) (m .body) (m .map) (m .verdicts) ≡ true → admitOf c m ≡ (90, m) → Chunk c m
+  damaged : shortOf (m .contents) (m .body) (m .map) (m .verdicts) ≡ false → damagedOf (m .st) ≡ true → admitOf c m ≡ (91, m) → Chunk c m
+  late : shortOf (m .contents) (m .body) (m .map) (m .verdicts) ≡ false → damagedOf (m .st) ≡ false → m .st .closed ≡ 1 → admitOf c m ≡ (37, m) → Bounded (m .st) → Chunk c m
+  taken : shortOf (m .contents) (m .body) (m .map) (m .verdicts) ≡ false → damagedOf (m .st) ≡ false → m .st .closed ≡ 0 → admitOf c m ≡ (0, chunkOf c m) → Bounded (chunkOf c m .st) → Chunk c m
+
+-- and a close: 91 or 37 with nothing changed, or it closes, by one of the numbers of a pack, or by none
+pub data Close (st : Admission) : Type 0 where
+  broken : damagedOf st ≡ true → closeOf st ≡ answered 91 st → Close st
+  again : damagedOf st ≡ false → st .closed ≡ 1 → closeOf st ≡ answered 37 st → Close st
+  ended : (a : Admitted) → damagedOf st ≡ false → st .closed ≡ 0 → closeOf st ≡ a → (a .refusal ≡ 0) ⊎ ((30 ≤ a .refusal) × (a .refusal ≤ 35))
+      → a .admission .closed ≡ 1 → Bounded (a .admission) → Close st
+
+-- Any numbers and any memory get an answer, a damaged admission's too.
+unfoldable pub AnswersAny : Type 0
+AnswersAny = ((c : List ℕ) (m : Mach) → Chunk c m) × ((st : Admission) → Close st)
