@@ -1,27 +1,22 @@
+-- `admission::ask` meets its contract.
+-- Assumes nothing.
 use Rattle.admission.specs.Admission.{askOf}
 use borrow.Author.Tests.{eq-eqb, ne-eqb}
 use borrow.Author.Needs.{needs}
 use Rattle.admission.proofs.ask.Statement.{statement}
 use Rattle.admission.proofs.ask.Tie as tie
-use Rattle.admission.proofs.ask.Reads as reads
-use Rattle.admission.proofs.ask.Lts as lts
-use Rattle.admission.proofs.damaged.Reads as damaged-reads
 
--- src/lib.rt:164:8
 damaged-requires : tie.Need-damaged-requires
 damaged-requires c κs = search needs
 
--- src/lib.rt:165:9
 returns : tie.Need-returns
 unfolding askOf
 returns c = simp (← c .before .damaged .ensures, c .if1 .taken)
 
--- src/lib.rt:168:9
 returns-2 : tie.Need-returns-2
 unfolding askOf
 returns-2 c = simp (← c .before .before .before .damaged .ensures, c .before .before .if1 .left, eq-eqb _ _ (c .if2 .taken))
 
--- src/lib.rt:161:1
 returns-3 : tie.Need-returns-3
 unfolding askOf
 returns-3 c = simp (← c .before .before .before .damaged .ensures, c .before .before .if1 .left, ne-eqb _ _ (c .if2 .left))

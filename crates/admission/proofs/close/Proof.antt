@@ -1,32 +1,25 @@
+-- `admission::close` meets its contract.
+-- Assumes nothing.
 use Rattle.admission.specs.Admission.{closeOf}
 use borrow.Author.Tests.{eq-eqb, ne-eqb}
 use borrow.Author.Needs.{needs}
 use Rattle.admission.proofs.close.Statement.{statement}
 use Rattle.admission.proofs.close.Tie as tie
-use Rattle.admission.proofs.close.Reads as reads
-use Rattle.admission.proofs.close.Lts as lts
-use Rattle.admission.proofs.damaged.Reads as damaged-reads
-use Rattle.admission.proofs.ended.Reads as ended-reads
 
--- src/lib.rt:145:8
 damaged-requires : tie.Need-damaged-requires
 damaged-requires c κs = search needs
 
--- src/lib.rt:146:9
 returns : tie.Need-returns
 unfolding closeOf
 returns c = simp (← c .before .damaged .ensures, c .if1 .taken)
 
--- src/lib.rt:152:9
 returns-2 : tie.Need-returns-2
 unfolding closeOf
 returns-2 c = simp (← c .before .before .before .damaged .ensures, c .before .before .if1 .left, ne-eqb _ _ (c .if2 .taken))
 
--- src/lib.rt:157:5
 ended-requires : tie.Need-ended-requires
 ended-requires c κs = search needs
 
--- src/lib.rt:142:1
 returns-3 : tie.Need-returns-3
 unfolding closeOf
 returns-3 c = simp (← c .before .before .before .before .damaged .ensures, c .before .before .before .if1 .left, eq-eqb _ _ (c .before .if2 .left), c .ended .ensures)

@@ -1,41 +1,34 @@
+-- `admission::wild` meets its contract.
+-- Assumes nothing.
 use Rattle.admission.specs.Numbers.{wildOf}
 use borrow.Author.Tests.{lt-ltb, le-ltb}
 use Rattle.admission.proofs.wild.Statement.{statement}
 use Rattle.admission.proofs.wild.Tie as tie
-use Rattle.admission.proofs.wild.Reads as reads
-use Rattle.admission.proofs.wild.Lts as lts
 
--- src/lib.rt:48:9
 returns : tie.Need-returns
 unfolding wildOf
 returns c = simp (lt-ltb _ _ (c .if1 .taken))
 
--- src/lib.rt:51:9
 returns-2 : tie.Need-returns-2
 unfolding wildOf
 returns-2 c = simp (le-ltb _ _ (c .before .before .if1 .left), lt-ltb _ _ (c .if2 .taken))
 
--- src/lib.rt:54:9
 returns-3 : tie.Need-returns-3
 unfolding wildOf
 returns-3 c = simp (le-ltb _ _ (c .before .before .before .before .if1 .left), le-ltb _ _ (c .before .before .if2 .left), lt-ltb _ _ (c .if3 .taken))
 
--- src/lib.rt:57:9
 returns-4 : tie.Need-returns-4
 unfolding wildOf
 returns-4 c = simp (le-ltb _ _ (c .before .before .before .before .before .before .if1 .left), le-ltb _ _ (c .before .before .before .before .if2 .left), le-ltb _ _ (c .before .before .if3 .left), lt-ltb _ _ (c .if4 .taken))
 
--- src/lib.rt:60:9
 returns-5 : tie.Need-returns-5
 unfolding wildOf
 returns-5 c = simp (le-ltb _ _ (c .before .before .before .before .before .before .before .before .if1 .left), le-ltb _ _ (c .before .before .before .before .before .before .if2 .left), le-ltb _ _ (c .before .before .before .before .if3 .left), le-ltb _ _ (c .before .before .if4 .left), lt-ltb _ _ (c .if5 .taken))
 
--- src/lib.rt:63:9
 returns-6 : tie.Need-returns-6
 unfolding wildOf
 returns-6 c = simp (le-ltb _ _ (c .before .before .before .before .before .before .before .before .before .before .if1 .left), le-ltb _ _ (c .before .before .before .before .before .before .before .before .if2 .left), le-ltb _ _ (c .before .before .before .before .before .before .if3 .left), le-ltb _ _ (c .before .before .before .before .if4 .left), le-ltb _ _ (c .before .before .if5 .left), lt-ltb _ _ (c .if6 .taken))
 
--- src/lib.rt:44:1
 returns-7 : tie.Need-returns-7
 unfolding wildOf
 returns-7 c = rw (le-ltb _ _ (c .before .before .before .before .before .before .before .before .before .before .before .if1 .left), le-ltb _ _ (c .before .before .before .before .before .before .before .before .before .if2 .left), le-ltb _ _ (c .before .before .before .before .before .before .before .if3 .left), le-ltb _ _ (c .before .before .before .before .before .if4 .left), le-ltb _ _ (c .before .before .before .if5 .left), le-ltb _ _ (c .before .if6 .left))

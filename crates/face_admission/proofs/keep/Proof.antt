@@ -1,3 +1,5 @@
+-- `face_admission::keep` meets its contract.
+-- Assumes nothing.
 use native.Mathlib.Omega.{arith}
 use lib.ListN.{length-set}
 use denote.Ref.{now}
@@ -6,46 +8,34 @@ use Rattle.answers.specs.Admissions.{numbersOf}
 use borrow.Author.Needs.{needs}
 use Rattle.face_admission.proofs.keep.Statement.{statement}
 use Rattle.face_admission.proofs.keep.Tie as tie
-use Rattle.face_admission.proofs.keep.Reads as reads
-use Rattle.face_admission.proofs.keep.Lts as lts
 
--- src/lib.rt:31:5
 slice-write-numbers : tie.Need-slice-write-numbers
 slice-write-numbers c = search needs
 
--- src/lib.rt:32:5
 slice-write-numbers-2 : tie.Need-slice-write-numbers-2
 slice-write-numbers-2 c = simp length-set (omega (arith, c .pre))
 
--- src/lib.rt:33:5
 slice-write-numbers-3 : tie.Need-slice-write-numbers-3
 slice-write-numbers-3 c = simp length-set (omega (arith, c .pre))
 
--- src/lib.rt:34:5
 slice-write-numbers-4 : tie.Need-slice-write-numbers-4
 slice-write-numbers-4 c = simp length-set (omega (arith, c .pre))
 
--- src/lib.rt:35:5
 slice-write-numbers-5 : tie.Need-slice-write-numbers-5
 slice-write-numbers-5 c = simp length-set (omega (arith, c .pre))
 
--- src/lib.rt:36:5
 slice-write-numbers-6 : tie.Need-slice-write-numbers-6
 slice-write-numbers-6 c = simp length-set (omega (arith, c .pre))
 
--- src/lib.rt:37:5
 slice-write-numbers-7 : tie.Need-slice-write-numbers-7
 slice-write-numbers-7 c = simp length-set (omega (arith, c .pre))
 
--- src/lib.rt:38:5
 slice-write-numbers-8 : tie.Need-slice-write-numbers-8
 slice-write-numbers-8 c = search needs
 
--- src/lib.rt:27:1
 same-length : tie.Need-same-length
 same-length c = search needs
 
--- src/lib.rt:27:1
 returns : tie.Need-returns
 returns c = sets-start (numbersOf (c .args .st)) (now (c .args .numbers)) (c .pre)
 

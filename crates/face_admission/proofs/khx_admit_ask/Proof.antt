@@ -1,36 +1,26 @@
+-- `face_admission::khx_admit_ask` meets its contract.
+-- Assumes nothing.
 use denote.Ref.{now}
 use Rattle.face_admission.proofs.Faces.{ask-few, ask-all}
 use borrow.Author.Needs.{needs}
 use Rattle.face_admission.proofs.khx_admit_ask.Statement.{statement}
 use Rattle.face_admission.proofs.khx_admit_ask.Tie as tie
-use Rattle.face_admission.proofs.khx_admit_ask.Reads as reads
-use Rattle.face_admission.proofs.khx_admit_ask.Lts as lts
-use Rattle.admission.proofs.ask.Reads as ask-reads
-use Rattle.face_admission.proofs.alone.Reads as alone-reads
-use Rattle.face_admission.proofs.read.Reads as read-reads
-use Rattle.face_admission.proofs.told.Reads as told-reads
 
--- src/lib.rt:127:9
 alone-requires : tie.Need-alone-requires
 alone-requires c κs = search needs
 
--- src/lib.rt:127:9
 returns : tie.Need-returns
 returns c = ask-few (now (c .before .before .before .args .numbers)) (c .before .if1 .taken) _ (c .alone .ensures)
 
--- src/lib.rt:129:9
 read-requires : tie.Need-read-requires
 read-requires c κs = search needs
 
--- src/lib.rt:130:10
 ask-requires : tie.Need-ask-requires
 ask-requires c κs = search needs
 
--- src/lib.rt:130:5
 told-requires : tie.Need-told-requires
 told-requires c κs = search needs
 
--- src/lib.rt:122:1
 returns-2 : tie.Need-returns-2
 returns-2 c = ask-all (now (c .before .before .before .before .before .args .numbers)) (c .before .before .before .if1 .left) _ _ (c .before .before .read .ensures) _ (c .before .ask .ensures) (c .told .ensures)
 

@@ -1,26 +1,22 @@
+-- `intake::short` meets its contract.
+-- Assumes nothing.
 use Rattle.admission.specs.Admission.{shortOf}
 use borrow.Author.Tests.{lt-ltb, le-ltb}
 use Rattle.intake.proofs.short.Statement.{statement}
 use Rattle.intake.proofs.short.Tie as tie
-use Rattle.intake.proofs.short.Reads as reads
-use Rattle.intake.proofs.short.Lts as lts
 
--- src/lib.rt:109:9
 returns : tie.Need-returns
 unfolding shortOf
 returns c = simp (lt-ltb _ _ (c .if1 .taken))
 
--- src/lib.rt:112:9
 returns-2 : tie.Need-returns-2
 unfolding shortOf
 returns-2 c = simp (le-ltb _ _ (c .before .if1 .left), lt-ltb _ _ (c .if2 .taken))
 
--- src/lib.rt:115:9
 returns-3 : tie.Need-returns-3
 unfolding shortOf
 returns-3 c = simp (le-ltb _ _ (c .before .before .if1 .left), le-ltb _ _ (c .before .if2 .left), lt-ltb _ _ (c .if3 .taken))
 
--- src/lib.rt:105:1
 returns-4 : tie.Need-returns-4
 unfolding shortOf
 returns-4 c = rw (le-ltb _ _ (c .before .before .if1 .left), le-ltb _ _ (c .before .if2 .left), le-ltb _ _ (c .if3 .left))

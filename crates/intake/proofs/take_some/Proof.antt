@@ -1,3 +1,5 @@
+-- `intake::take_some` meets its contract.
+-- Assumes nothing.
 use Prim.Native.Nat.{ℕ, _-_}
 use native.Mathlib.Omega.{arith}
 use mathlib.Core.Path.{_≡_, sym, _∙_, subst}
@@ -10,73 +12,51 @@ use Rattle.intake.proofs.Chunks.{some-idle, some-byte, some-stored}
 use borrow.Author.Needs.{needs}
 use Rattle.intake.proofs.take_some.Statement.{statement}
 use Rattle.intake.proofs.take_some.Tie as tie
-use Rattle.intake.proofs.take_some.Reads as reads
-use Rattle.intake.proofs.take_some.Lts as lts
-use Rattle.arrival.proofs.plain.Reads as plain-reads
-use Rattle.arrival.proofs.store.Reads as store-reads
-use Rattle.arrival.proofs.take_byte.Reads as take-byte-reads
-use Rattle.intake.proofs.idle.Reads as idle-reads
-use Rattle.intake.proofs.pass.Reads as pass-reads
 
--- src/lib.rt:59:8
 idle-requires : tie.Need-idle-requires
 idle-requires c κs = search needs
 
--- src/lib.rt:60:13
 pass-requires : tie.Need-pass-requires
 pass-requires c κs = search needs
 
--- src/lib.rt:61:9
 returns : tie.Need-returns
 returns c = let a = c .before .before .before .before .before .before .before .before .args in let p = c .before .before .before .before .before .before .before .before .pre in
     ((p .1, omega arith), some-idle (now (a .rest)) (mach (a .st) (now (a .contents)) (now (a .body)) (now (a .map)) (now (a .verdicts))) _ (p .1) (sym (c .before .before .idle .ensures) ∙ c .before .if1 .taken) (c .pass .ensures))
 
--- src/lib.rt:66:9
 plain-requires : tie.Need-plain-requires
 plain-requires c κs = search needs
 
--- src/lib.rt:68:20
 shared-slice-read-byte : tie.Need-shared-slice-read-byte
 shared-slice-read-byte c = search needs
 
--- src/lib.rt:69:13
 take-byte-requires : tie.Need-take-byte-requires
 take-byte-requires c κs = search needs
 
--- src/lib.rt:70:9
 same-length : tie.Need-same-length
 same-length c = search needs
 
--- src/lib.rt:70:9
 same-length-2 : tie.Need-same-length-2
 same-length-2 c = search needs
 
--- src/lib.rt:70:9
 same-length-3 : tie.Need-same-length-3
 same-length-3 c = search needs
 
--- src/lib.rt:70:9
 same-length-4 : tie.Need-same-length-4
 same-length-4 c = search needs
 
--- src/lib.rt:70:9
 returns-2 : tie.Need-returns-2
 returns-2 c = let a = c .before .before .before .before .before .before .before .before .before .before .before .before .before .before .before .before .before .before .before .before .before .before .before .before .args in let p = c .before .before .before .before .before .before .before .before .before .before .before .before .before .before .before .before .before .before .before .before .before .before .before .before .pre in
     ((omega arith, p .1), some-byte (now (a .rest)) (mach (a .st) (now (a .contents)) (now (a .body)) (now (a .map)) (now (a .verdicts))) _ (p .1) (c .before .before .before .before .before .before .before .before .take-byte .ensures))
 
--- src/lib.rt:75:40
 sub-store : tie.Need-sub-store
 sub-store c = search needs
 
--- src/lib.rt:75:40
 part-store-start : tie.Need-part-store-start
 part-store-start c = search needs
 
--- src/lib.rt:75:40
 part-store-end : tie.Need-part-store-end
 part-store-end c = search needs
 
--- src/lib.rt:75:9
 store-requires : tie.Need-store-requires
 store-requires c κs = let a = c .before .before .before .before .before .before .before .before .before .before .before .before .before .args in let p = c .before .before .before .before .before .before .before .before .before .before .before .before .before .pre .0 in
     let k = c .before .before .before .before .plain .result in
@@ -85,15 +65,12 @@ store-requires c κs = let a = c .before .before .before .before .before .before
     let l : length (take (k - 0) (now (a .rest))) ≡ k = rw z (length-take-le k (now (a .rest)) (e .0)) in
     (subst (λ (n : ℕ). Plain n (a .st) (now (a .contents))) (sym l) (e .1 (omega arith)), p .sound, p .contents, p .body)
 
--- src/lib.rt:46:1
 same-length-5 : tie.Need-same-length-5
 same-length-5 c = search needs
 
--- src/lib.rt:46:1
 same-length-6 : tie.Need-same-length-6
 same-length-6 c = search needs
 
--- src/lib.rt:46:1
 returns-3 : tie.Need-returns-3
 returns-3 c = let a = c .before .before .before .before .before .before .before .before .before .before .before .before .before .before .before .before .before .before .args in let k = c .before .before .before .before .before .before .before .before .before .plain .result in
     let e = c .before .before .before .before .before .before .before .before .before .plain .ensures in
