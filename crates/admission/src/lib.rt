@@ -98,10 +98,10 @@ pub fn damaged(st: Admission) -> bool
 pub fn lost(st: Admission) -> usize
     ensures { λ r. ⌜ r ≡ lostOf st ⌝ }
 {
-    if 24576 < st.counted {
-        return 31;
+    if st.counted <= 24576 {
+        return st.refusal;
     }
-    st.refusal
+    31
 }
 
 // What refuses the pack whose bytes have all come, 0 for nothing.

@@ -76,9 +76,9 @@ pub extern "C" fn khx_admit_start(numbers: &mut [usize]) -> KhxAdmitted
     if numbers.len() < 8 {
         return alone(90);
     }
-    let st = admission::start();
-    keep(st, numbers);
-    told(0, st)
+    let fresh = admission::start();
+    keep(fresh, numbers);
+    told(0, fresh)
 }
 
 // A chunk comes, of any length.
@@ -96,11 +96,12 @@ pub extern "C" fn khx_admit_chunk(
     if numbers.len() < 8 {
         return alone(90);
     }
-    let admitted = intake::chunk(read(numbers), chunk, contents, body, map, verdicts);
+    let before = read(numbers);
+    let admitted = intake::chunk(before, chunk, contents, body, map, verdicts);
     let refusal = admitted.refusal;
-    let st = admitted.admission;
-    keep(st, numbers);
-    told(refusal, st)
+    let after = admitted.admission;
+    keep(after, numbers);
+    told(refusal, after)
 }
 
 // The pack has come.
@@ -111,11 +112,12 @@ pub extern "C" fn khx_admit_close(numbers: &mut [usize]) -> KhxAdmitted
     if numbers.len() < 8 {
         return alone(90);
     }
-    let admitted = admission::close(read(numbers));
+    let still = read(numbers);
+    let admitted = admission::close(still);
     let refusal = admitted.refusal;
-    let st = admitted.admission;
-    keep(st, numbers);
-    told(refusal, st)
+    let ended = admitted.admission;
+    keep(ended, numbers);
+    told(refusal, ended)
 }
 
 // The answer so far.
@@ -127,5 +129,6 @@ pub extern "C" fn khx_admit_ask(numbers: &[usize]) -> KhxAdmitted
         return alone(90);
     }
     let st = read(numbers);
-    told(admission::ask(st), st)
+    let answer = admission::ask(st);
+    told(answer, st)
 }
