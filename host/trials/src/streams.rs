@@ -33,11 +33,21 @@ impl Maker<'_> {
             false => self.some_pack(),
         };
         if self.source.one_in(60) {
-            let filling = self.source.byte();
-            let size = self.size_about_the_most();
-            pack.resize(pack.len().max(size), filling);
+            self.fill_up(&mut pack);
         }
         pack
+    }
+
+    /// Puts bytes behind a pack, and often alters its contents: 31 comes first.
+    fn fill_up(&mut self, pack: &mut Vec<u8>) {
+        let filling = self.source.byte();
+        let size = self.size_about_the_most();
+        pack.resize(pack.len().max(size), filling);
+        match self.source.below(4) {
+            0 => self.spoil_count(pack),
+            1 => self.spoil_field(pack),
+            _ => {}
+        }
     }
 
     /// How long a pack is to be that is filled up: mostly one byte too long.
