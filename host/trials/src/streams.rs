@@ -50,12 +50,13 @@ impl Maker<'_> {
         }
     }
 
-    /// How long a pack is to be that is filled up: mostly one byte too long.
+    /// How long a pack is to be that is filled up: mostly one byte too long, sometimes so
+    /// long that in 16 bits it would be small.
     fn size_about_the_most(&mut self) -> usize {
         match self.source.below(8) {
             0 => PACK_BYTES,
-            1 => self.source.between(PACK_BYTES, 66_000),
-            2 if self.large => self.source.between(66_000, LONGEST),
+            1 => self.source.between(PACK_BYTES, LONGEST),
+            2 => 65_536 + self.source.below(600),
             _ => PACK_BYTES + 1,
         }
     }
