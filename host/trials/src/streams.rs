@@ -7,7 +7,8 @@ use crate::maker::{Maker, PACK_BYTES};
 /// The bytes of the longest pack that comes.
 const LONGEST: usize = 150_000;
 
-/// The most chunks of a large pack, but for the few that come byte by byte.
+/// How often the longest chunk goes into a large pack, but for the few that come byte by
+/// byte.
 const CHUNKS: usize = 60;
 
 impl Maker<'_> {
@@ -104,9 +105,10 @@ impl Maker<'_> {
     /// How long the chunks of so many bytes are to be at most: often a byte alone.
     fn longest_chunk(&mut self, length: usize) -> usize {
         let longest = self.source.one_of(&[1, 1, 2, 5, 12, 40]);
-        match length > 1_000 && !self.source.one_in(12) {
-            true => longest.max(length / CHUNKS),
-            false => longest,
+        match length {
+            0..=1_000 => longest,
+            1_001..=24_577 if self.source.one_in(12) => longest,
+            _ => longest.max(length / CHUNKS),
         }
     }
 
