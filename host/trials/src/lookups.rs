@@ -48,15 +48,16 @@ impl Maker<'_> {
         (pack, tags)
     }
 
-    /// Those of a good pack, with small bodies.
+    /// Those of a good pack, with small bodies, or none at all.
     fn parts(&mut self) -> Parts {
         let count = self.source.between(0, PACK_ENTRIES);
         let start = 2 + 8 * count;
+        let longest = self.source.below(4);
         let mut end = start as u16;
         let mut entries = Vec::new();
         for tag in self.ascending(count) {
             let cells = self.source.between(0, STACK_CELLS) as u16;
-            let length = self.source.below(4) as u16;
+            let length = self.source.between(0, longest) as u16;
             entries.push([tag, cells, end, length]);
             end += length;
         }
@@ -116,7 +117,7 @@ impl Maker<'_> {
     }
 
     /// Gives a pack a count that is not its own: near it, near the most, or any.
-    fn spoil_count(&mut self, pack: &mut [u8]) {
+    pub fn spoil_count(&mut self, pack: &mut [u8]) {
         let own = usize::from(pack[0]);
         let count = match self.source.below(3) {
             0 => self.source.near(own) as u16,

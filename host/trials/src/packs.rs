@@ -163,7 +163,7 @@ impl Maker<'_> {
     }
 
     /// Alters one of the fields of a pack, by one or altogether.
-    fn spoil_field(&mut self, pack: &mut [u8]) {
+    pub fn spoil_field(&mut self, pack: &mut [u8]) {
         let contents = pack.len().min(2 + 8 * PACK_ENTRIES);
         let field = self.source.below(contents / 2) * 2;
         let old = u16::from_le_bytes([pack[field], pack[field + 1]]);

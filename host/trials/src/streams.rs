@@ -7,7 +7,8 @@ use crate::maker::{Maker, PACK_BYTES};
 /// The bytes of the longest pack that comes.
 const LONGEST: usize = 150_000;
 
-/// The most chunks of a large pack, but for the few that come byte by byte.
+/// How often the longest chunk goes into a large pack, but for the few that come byte by
+/// byte.
 const CHUNKS: usize = 60;
 
 impl Maker<'_> {
@@ -33,19 +34,30 @@ impl Maker<'_> {
             false => self.some_pack(),
         };
         if self.source.one_in(60) {
-            let filling = self.source.byte();
-            let size = self.size_about_the_most();
-            pack.resize(pack.len().max(size), filling);
+            self.fill_up(&mut pack);
         }
         pack
     }
 
-    /// How long a pack is to be that is filled up: mostly one byte too long.
+    /// Puts bytes behind a pack, and often alters its contents: 31 comes first.
+    fn fill_up(&mut self, pack: &mut Vec<u8>) {
+        let filling = self.source.byte();
+        let size = self.size_about_the_most();
+        pack.resize(pack.len().max(size), filling);
+        match self.source.below(4) {
+            0 => self.spoil_count(pack),
+            1 => self.spoil_field(pack),
+            _ => {}
+        }
+    }
+
+    /// How long a pack is to be that is filled up: mostly one byte too long, sometimes so
+    /// long that in 16 bits it would be small.
     fn size_about_the_most(&mut self) -> usize {
         match self.source.below(8) {
             0 => PACK_BYTES,
-            1 => self.source.between(PACK_BYTES, 66_000),
-            2 if self.large => self.source.between(66_000, LONGEST),
+            1 => self.source.between(PACK_BYTES, LONGEST),
+            2 => 65_536 + self.source.below(600),
             _ => PACK_BYTES + 1,
         }
     }
@@ -93,9 +105,10 @@ impl Maker<'_> {
     /// How long the chunks of so many bytes are to be at most: often a byte alone.
     fn longest_chunk(&mut self, length: usize) -> usize {
         let longest = self.source.one_of(&[1, 1, 2, 5, 12, 40]);
-        match length > 1_000 && !self.source.one_in(12) {
-            true => longest.max(length / CHUNKS),
-            false => longest,
+        match length {
+            0..=1_000 => longest,
+            1_001..=24_577 if self.source.one_in(12) => longest,
+            _ => longest.max(length / CHUNKS),
         }
     }
 

@@ -73,18 +73,16 @@ fn far_past(vectors: &mut Vectors) {
     }
 }
 
-/// The longest programs, refused and accepted at their last byte, whole and cut there.
+/// The longest programs, refused and accepted at their last bytes, whole and cut there.
 fn far_addresses(vectors: &mut Vectors) {
     for last in [0x00, 0x01, 0x7F, 0x80] {
-        let mut pieces = vec![piece(
-            1,
-            &contents(2, &[[7, 1, 18, 16_384], [9, 0, 16_402, 8_174]]),
-        )];
-        for length in [16_384, 8_174_u16] {
-            let [low, high] = (length - 1).to_le_bytes();
+        let fields = [[7, 1, 18, 16_384], [9, 2, 16_402, 8_174]];
+        let mut pieces = vec![piece(1, &contents(2, &fields))];
+        for length in fields.map(|entry: Fields| entry[3]) {
+            let [low, high] = (length - 2).to_le_bytes();
             pieces.push(piece(1, &[0x56, low, high]));
-            pieces.push(piece(usize::from(length) - 4, &[0x5B]));
-            pieces.push(piece(1, &[last]));
+            pieces.push(piece(usize::from(length) - 5, &[0x5B]));
+            pieces.push(piece(1, &[0x80, last]));
         }
         let case = Case::of_pieces(&pieces);
         case.clone().chunk(PACK_BYTES).close().add(vectors);
