@@ -12,9 +12,9 @@
 #include <signal.h>
 
 static void (*const TRIES[])(input *) = {
-    try_decode, try_read,       try_encode,     try_run,       try_step,       try_verify,
-    try_list,   try_pack_check, try_pack_entry, try_pack_find, try_pack_write, try_report,
-    try_copy,   try_shape,      try_pack_lookup,
+    try_decode, try_read,       try_encode,      try_run,       try_step,              try_verify,
+    try_list,   try_pack_check, try_pack_entry,  try_pack_find, try_pack_write,        try_report,
+    try_copy,   try_shape,      try_pack_lookup, try_admission, try_admission_numbers,
 };
 
 static sigjmp_buf ground;

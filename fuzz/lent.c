@@ -78,6 +78,12 @@ lent lend_copy(input *from, const void *bytes, size_t size)
     return memory;
 }
 
+void give_back(void)
+{
+    promise(in_use > 0, "the harness: something to give back");
+    in_use--;
+}
+
 /* The input is used up as without it, so that what follows the room has its meaning. */
 lent as_room(lent memory)
 {
@@ -97,6 +103,11 @@ unsigned rooms_lent(void)
 void restore(const lent *memory)
 {
     copy_bytes(memory->bytes, memory->was, memory->size);
+}
+
+void remember(const lent *memory)
+{
+    copy_bytes(memory->was, memory->bytes, memory->size);
 }
 
 /* To add even 0 to NULL has no meaning in C. */

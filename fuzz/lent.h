@@ -34,6 +34,9 @@ lent lend_filled(input *from, size_t size);
 /* A copy of so many bytes. */
 lent lend_copy(input *from, const void *bytes, size_t size);
 
+/* The memory lent last is lent no more. */
+void give_back(void);
+
 /* Lent memory that the library may write to and whose size is free: a room, emptied where the way of lending says so. */
 lent as_room(lent memory);
 
@@ -42,6 +45,9 @@ unsigned rooms_lent(void);
 
 /* The bytes that were lent stand there again. */
 void restore(const lent *memory);
+
+/* What stands there now is taken for what was lent. */
+void remember(const lent *memory);
 
 /* The place at an offset, which is in the memory or at its end. */
 uint8_t *place_in(const lent *memory, size_t offset);

@@ -6,12 +6,6 @@
 #include "promise.h"
 #include "tries.h"
 
-static uint16_t number_at(const lent *pack, size_t at)
-{
-    const uint8_t *low = place_in(pack, at);
-    return (uint16_t)(low[0] | low[1] << 8);
-}
-
 /* Step 1: the number by which contents are refused that cannot be read, or 0. */
 static size_t unread(const lent *pack)
 {
@@ -20,14 +14,6 @@ static size_t unread(const lent *pack)
     if (pack->size < HEAD || number_at(pack, 0) > KHX_ENTRIES_MAX || pack->size < HEAD + FIELDS * (size_t)number_at(pack, 0))
         return KHX_PACK_CONTENTS;
     return 0;
-}
-
-/* The entry at an index, as it stands in the contents. */
-static khx_entry entry_in(const lent *pack, size_t index)
-{
-    size_t at = HEAD + FIELDS * index;
-    khx_entry entry = {0, 1, number_at(pack, at), number_at(pack, at + 2), number_at(pack, at + 4), number_at(pack, at + 6)};
-    return entry;
 }
 
 static size_t greatest_power_below(size_t count)

@@ -74,6 +74,19 @@ lent take_pack(input *from)
     return lend_copy(from, pack, written.length);
 }
 
+uint16_t number_at(const lent *pack, size_t at)
+{
+    const uint8_t *low = place_in(pack, at);
+    return (uint16_t)(low[0] | low[1] << 8);
+}
+
+khx_entry entry_in(const lent *pack, size_t index)
+{
+    size_t at = HEAD + FIELDS * index;
+    khx_entry entry = {0, 1, number_at(pack, at), number_at(pack, at + 2), number_at(pack, at + 4), number_at(pack, at + 6)};
+    return entry;
+}
+
 static bool refuses_pack(size_t refusal)
 {
     return refusal >= KHX_PACK_CONTENTS && refusal <= KHX_PACK_ENTRY;

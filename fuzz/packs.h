@@ -1,4 +1,4 @@
-/* Packs from the input, and what is said of them, for the trials of packs, of the lookup and of the report. */
+/* Packs from the input, and what is said of them, for the trials of packs, of the lookup, of the report and of the admission. */
 #ifndef FUZZ_PACKS_H
 #define FUZZ_PACKS_H
 
@@ -10,6 +10,10 @@ enum { HEAD = 2, FIELDS = 8 };
 
 /* Any bytes, or a pack written from lists, or such a pack with a byte changed. */
 lent take_pack(input *from);
+
+/* The number at a place, and the entry at an index, as they stand in the bytes, good or not. */
+uint16_t number_at(const lent *pack, size_t at);
+khx_entry entry_in(const lent *pack, size_t index);
 
 /* What the check says, which writes nothing. */
 khx_checked check_pack(const lent *pack);

@@ -29,6 +29,12 @@ typedef enum kind {
     LOOKED_UP,
     WRITTEN,
     REPORTED,
+    RULED,
+    LOST,
+    WHOLE,
+    ADMITTED,
+    FED,
+    SHUT,
     KINDS
 } kind;
 

@@ -9,7 +9,7 @@
 #include <stdlib.h>
 #include <string.h>
 
-enum { FILES_MAX = 128, LENGTH_MAX = 1024 };
+enum { FILES_MAX = 256, LENGTH_MAX = 1024 };
 
 typedef struct seed {
     size_t length;

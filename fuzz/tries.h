@@ -19,6 +19,10 @@ void try_pack_lookup(input *from);
 void try_pack_write(input *from);
 void try_report(input *from);
 
+/* A pack admitted in chunks; and the same calls over any numbers. */
+void try_admission(input *from);
+void try_admission_numbers(input *from);
+
 /* A run whose next instruction copies. */
 void try_copy(input *from);
 
