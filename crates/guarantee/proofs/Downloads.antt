@@ -13,7 +13,7 @@ use Rattle.basis.proofs.Tests.{test, same?, refused-one}
 use Rattle.pack.specs.Read.{readOf}
 use Rattle.rulings.specs.Rulings.{Ruling, rulingsOf}
 use Rattle.rulings.proofs.Answers.{rulings-refused}
-use Rattle.admission.specs.Numbers.{damagedOf}
+use Rattle.admission.specs.Numbers.{damagedOf, lostOf}
 use Rattle.admission.specs.Admission.{Mach, Outcome, shortOf, chunkOf, admitOf, answered, endedOf, closeOf, askOf}
 use Rattle.admission.specs.Fit.{Sound, Fit}
 use Rattle.admission.specs.declared.Admission.{Admission}
@@ -22,11 +22,12 @@ use Rattle.admission.proofs.Tests.{whole-sound, sound-whole, tests-fit}
 use Rattle.admission.proofs.Fits.{chunk-fit}
 use Rattle.intake.proofs.Chunks.{chunk-short, chunk-damaged, chunk-late, chunk-taken}
 use Rattle.streams.specs.Told.{Begun, Within, admitAll, joined}
+use Rattle.streams.proofs.Kept.{chunk-live}
 use Rattle.streams.proofs.Closing.{read-long, told-number, told-nonzero}
-use Rattle.streams.proofs.Ending.{Shut, ended-shut, ended-told, ended-packs, shut-close, shut-ask, shut-chunk}
+use Rattle.streams.proofs.Ending.{Shut, ended-shut, ended-told, ended-packs, ended-lost, shut-close, shut-ask, shut-chunk}
 use Rattle.streams.proofs.Within.{within, chunk-within}
-use Rattle.streams.proofs.Streams.{Open, come, admitted, closed, close-ends, final, judged-whole, whole-judged, lost-refused}
-use Rattle.guarantee.specs.Downloads.{TakesAnyChunk, KeepsOnlyThese, ClosesAsWhole, JudgesAtLastByte, ProvisionalIsFinal, LongComesFirst, RefusedHasNone, shut, Late, LateIsRefused, AsksOpen, LostIsRefused, Bounded, Chunk, short, damaged, late, taken, Close, broken, again, ended, AnswersAny}
+use Rattle.streams.proofs.Streams.{Open, come, admitted, closed, close-ends, final, told-right, judged-whole, whole-judged, lost-refused, long-lost, refused-lost}
+use Rattle.guarantee.specs.Downloads.{TakesAnyChunk, KeepsOnlyThese, ClosesAsWhole, JudgesAtLastByte, TellsRight, ProvisionalIsFinal, LongComesFirst, RefusedHasNone, shut, Late, LateIsRefused, AsksOpen, LostIsRefused, LostIsTold, Bounded, Chunk, short, damaged, late, taken, Close, broken, again, ended, Ask, torn, still, told, AnswersAny}
 
 pub takes-any-chunk : TakesAnyChunk
 unfolding TakesAnyChunk
@@ -38,7 +39,11 @@ closes-as-whole cs m b = closed (joined cs) (admitAll cs m) (come cs m b)
 
 pub judges-at-last-byte : JudgesAtLastByte
 unfolding JudgesAtLastByte
-judges-at-last-byte cs m b l j = let o = come cs m b in (judged-whole (joined cs) (admitAll cs m) o l j, whole-judged (joined cs) (admitAll cs m) o l j)
+judges-at-last-byte cs m b j = let o = come cs m b in (judged-whole (joined cs) (admitAll cs m) o j, whole-judged (joined cs) (admitAll cs m) o j)
+
+pub tells-right : TellsRight
+unfolding TellsRight
+tells-right cs m b j h = told-right (joined cs) (admitAll cs m) (come cs m b) j h .0 .coded
 
 pub provisional-is-final : ProvisionalIsFinal
 unfolding ProvisionalIsFinal
@@ -55,6 +60,14 @@ long-comes-first cs m b l = refuses-alike cs m 31 b (read-long (joined cs) l)
 pub lost-is-refused : LostIsRefused
 unfolding LostIsRefused
 lost-is-refused cs rest m k b e n = lost-refused (joined cs) rest (admitAll cs m) k (come cs m b) e n
+
+pub lost-is-told : LostIsTold
+unfolding LostIsTold
+lost-is-told cs m b =
+    let o = come cs m b in (
+      long-lost (joined cs) (admitAll cs m) o,
+      λ k small two whole e. refused-lost (joined cs) (admitAll cs m) k o small two whole e,
+    )
 
 pub asks-open : AsksOpen
 unfolding AsksOpen askOf
@@ -82,6 +95,7 @@ module _ (s : List ℕ) (m : Mach) (o : Open s m) where
     chunk = λ c. shut-chunk c (shut m) fit-shut (is-shut .closed);
     close = shut-close (closeOf (m .st) .admission) is-shut;
     ask = shut-ask (closeOf (m .st) .admission) is-shut ∙ kept;
+    lost = ap lostOf left ∙ ended-lost (m .st) ∙ ap (λ (a : Admitted). a .refusal) (sym (close-ends s m o));
   }
 
 pub late-is-refused : LateIsRefused
@@ -109,7 +123,7 @@ any-chunk c m =
     (λ d. damaged h d (sym (chunk-damaged c m h d)))
     (λ d. let f = tests-fit m h d in
     ⊎-elim
-    (λ e. taken h d e (sym (chunk-taken c m h d e (chunkOf c m) refl)) (bounded (chunkOf c m .st) (chunk-fit c m f .sound)))
+    (λ e. taken h d e (sym (chunk-taken c m h d e (chunkOf c m) refl)) (chunk-live c m ∙ e) (bounded (chunkOf c m .st) (chunk-fit c m f .sound)))
     (λ e. late h d e (sym (chunk-late c m h d (λ z. omega (arith, z, e)))) (bounded (m .st) (f .sound)))
     (open-or-shut (m .st) (f .sound)))
     (test (damagedOf (m .st))))
@@ -124,13 +138,25 @@ any-close st =
     ⊎-elim
     (λ e. let x = ended-shut st s in
     ended (endedOf st) d e (rw (d, eq-eqb (st .closed) 0 e)) (ended-packs st s) (x .closed) (bounded (endedOf st .admission) (x .sound)))
-    (λ e. again d e (shut-close st (record { sound = s; closed = e })))
+    (λ e. again d e (shut-close st (record { sound = s; closed = e })) (bounded st s))
+    (open-or-shut st s))
+    (test (damagedOf st))
+
+any-ask : (st : Admission) → Ask st
+unfolding askOf
+any-ask st =
+    ⊎-elim
+    (λ d. torn d (rw d))
+    (λ d. let s = whole-sound st d in
+    ⊎-elim
+    (λ e. still d e (rw (d, eq-eqb (st .closed) 0 e)) (bounded st s))
+    (λ e. told d e (shut-ask st (record { sound = s; closed = e })) (⊎-elim (λ z. inl z) (λ p. inr (p .1, p .2)) (s .told)) (bounded st s))
     (open-or-shut st s))
     (test (damagedOf st))
 
 pub answers-any : AnswersAny
 unfolding AnswersAny
-answers-any = (any-chunk, any-close)
+answers-any = (any-chunk, any-close, any-ask)
 
 pub keeps-only-these : KeepsOnlyThese
 unfolding KeepsOnlyThese
@@ -143,4 +169,4 @@ keeps-only-these c m = by (any-chunk c m)
     by (short h e) = same 90 e
     by (damaged h d e) = same 91 e
     by (late h d z e b) = same 37 e
-    by (taken h d z e b) = subst (λ (o : Outcome). Within m (o .1)) (sym e) (chunk-within c m (tests-fit m h d))
+    by (taken h d z e l b) = subst (λ (o : Outcome). Within m (o .1)) (sym e) (chunk-within c m (tests-fit m h d))

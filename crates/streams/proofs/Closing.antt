@@ -159,7 +159,7 @@ module _ (s : List ℕ) (m : Mach) (whole : damagedOf (m .st) ≡ false) (live :
 
 pub stands-close : (s : List ℕ) (m : Mach) → damagedOf (m .st) ≡ false → m .st .closed ≡ 0 → Stands s m → closedOf m ≡ rulingsOf s
 unfolding closingOf
-stands-close s m whole live (over l c) =
+stands-close s m whole live (over l c p) =
     told-refused (m .st) whole live (m .verdicts) 31 (rw (lt-ltb 24576 (m .st .counted) (omega arith))) (λ e. omega (arith, e))
     ∙ sym (rulings-refused s 31 (read-long s l))
 stands-close s m whole live (some l c p) = close-part s m whole live l c p

@@ -7,7 +7,7 @@ use mathlib.Core.Logic.{_⊎_, ⊎-elim}
 use mathlib.Core.List.{List, [], _∷_, _++_, append-nil}
 use lib.Dec.{ltb, eqb}
 use lib.ListN.{length, take, drop, set, length-append, take-append-drop}
-use lib.Seq.{take-length, drop-length, append-snoc, take-append-le, drop-append-le, take-suc-set}
+use lib.Seq.{take-all, take-length, drop-length, append-snoc, take-append-le, drop-append-le, take-suc-set}
 use borrow.Author.Tests.{lt-ltb, le-ltb, eq-eqb, ne-eqb, ltb-true, ltb-false, eqb-false}
 use Rattle.basis.specs.Answer.{Answer, given, refused}
 use Rattle.basis.proofs.Tests.{same?, test, refused-given}
@@ -17,7 +17,7 @@ use Rattle.pack.specs.declared.Entry.{Entry}
 use Rattle.pack.proofs.Sounds.{Whole, whole-walk}
 use Rattle.admission.specs.Numbers.{startOf, counts, wants, refuses, opens, judges}
 use Rattle.admission.specs.Fit.{Fit}
-use Rattle.admission.specs.Admission.{Mach, mach, settled, sizedOf, onBodies, openedOf, byteOf, chunkOf}
+use Rattle.admission.specs.Admission.{Mach, mach, countedAs, settled, sizedOf, onBodies, openedOf, byteOf, chunkOf}
 use Rattle.admission.specs.declared.Admission.{Admission}
 use Rattle.admission.proofs.Fits.{learnt-fit, grown-fit, byte-fit}
 use Rattle.arrival.proofs.Bytes.{byte-over, byte-contents, byte-past, byte-body}
@@ -34,6 +34,7 @@ done-prefix s t cells j l d =
     record {
       fits = rw (e, length-append s t) (omega (arith, d .fits));
       said = d .said ∙ rw (e, judged-prefix s t (entryOf s j) (d .fits));
+      coded = d .coded ∙ rw (e, judged-prefix s t (entryOf s j) (d .fits));
     }
 
 -- good contents: the bytes that came are more by one
@@ -319,16 +320,48 @@ part-byte s x m f c l (cut k) = cut-byte s x m f c l k
 part-byte s x m f c l (bad b) = bad-byte s x m c l b
 part-byte s x m f c l (good n r h) = good-byte s x n m r f c l h
 
-past-byte : (s : List ℕ) (x : ℕ) (m : Mach) → 24576 ≤ m .st .counted → 24576 ≤ length s → Stands (s ++ (x ∷ [])) (byteOf x m)
-past-byte s x m c l = let k = length-append s (x ∷ []) in subst (Stands (s ++ (x ∷ []))) (byte-over x m c) (over (omega arith) refl)
+-- what is only counted leaves the rest as it was
+part-counted : (s : List ℕ) (m : Mach) (k : ℕ) → Part s m → Part s (countedAs k m)
+part-counted s m k (cut c) =
+    cut (record { want = c .want; less = c .less; few = c .few; contents = c .contents; programs = c .programs; judged = c .judged; have = c .have; refusal = c .refusal })
+part-counted s m k (bad b) = bad (record { nonzero = b .nonzero; want = b .want; programs = b .programs; judged = b .judged; always = b .always })
+part-counted s m k (good n r h) =
+    good n
+    (record {
+      is = r .is;
+      few = r .few;
+      room = r .room;
+      want = r .want;
+      contents = r .contents;
+      ends = r .ends;
+      programs = r .programs;
+      judged = r .judged;
+      refusal = r .refusal;
+      done = r .done;
+      least = r .least;
+      at = r .at;
+      rest = r .rest;
+      reached = r .reached;
+      place = r .place;
+      body = r .body;
+      within = r .within;
+    })
+    h
+
+past-byte : (s : List ℕ) (x : ℕ) (m : Mach) → 24576 ≤ m .st .counted → 24576 ≤ length s → Part (take 24576 s) m → Stands (s ++ (x ∷ [])) (byteOf x m)
+past-byte s x m c l p =
+    let k = length-append s (x ∷ []) in
+    let z : take 24576 (s ++ (x ∷ [])) ≡ take 24576 s = take-append-le 24576 s (x ∷ []) l in
+    subst (Stands (s ++ (x ∷ []))) (byte-over x m c)
+    (over (omega arith) refl (subst (λ (y : List ℕ). Part y (countedAs 24577 m)) (sym z) (part-counted (take 24576 s) m 24577 p)))
 
 pub stands-byte : (s : List ℕ) (x : ℕ) (m : Mach) → Fit m → Stands s m → Stands (s ++ (x ∷ [])) (byteOf x m)
-stands-byte s x m f (over l c) = past-byte s x m (omega arith) (omega arith)
+stands-byte s x m f (over l c p) = past-byte s x m (omega arith) (omega arith) p
 stands-byte s x m f (some l c p) =
     ⊎-elim
     (λ h. let z = ltb-true (length s) 24576 h in let k = length-append s (x ∷ []) in
     some (omega arith) (byte-same x m (omega arith) .counted ∙ (let y : m .st .counted + 1 ≡ length (s ++ (x ∷ [])) = omega arith in y)) (part-byte s x m f c z p))
-    (λ h. let z = ltb-false (length s) 24576 h in past-byte s x m (omega arith) z)
+    (λ h. let z = ltb-false (length s) 24576 h in past-byte s x m (omega arith) z (rw (take-all 24576 s l) p))
     (test (ltb (length s) 24576))
 
 -- a chunk more

@@ -9,8 +9,8 @@ use mathlib.Core.List.{List}
 use lib.Dec.{ltb, eqb}
 use borrow.Author.Tests.{eqb-true, eqb-false, ne-eqb}
 use Rattle.basis.specs.Pick.{pick}
-use Rattle.basis.proofs.Tests.{pick-cases, same?}
-use Rattle.admission.specs.Numbers.{admits, withdraws, damagedOf}
+use Rattle.basis.proofs.Tests.{pick-cases, test}
+use Rattle.admission.specs.Numbers.{admits, withdraws, damagedOf, lostOf}
 use Rattle.admission.specs.Admission.{Mach, Outcome, admitOf, answered, closingOf, endedOf, closeOf, askOf}
 use Rattle.admission.specs.Fit.{Sound, Fit}
 use Rattle.admission.specs.declared.Admission.{Admission}
@@ -64,6 +64,25 @@ ended-told st =
     pick-cases (λ (a : Admitted). (a .admission .refusal ≡ a .refusal) × ((a .refusal ≡ 0 → ⊥) → a .admission .judged ≡ 0)) (eqb (closingOf st) 0) (answered 0 (admits st)) (answered (closingOf st) (withdraws (closingOf st) st))
     (λ h. (refl, λ n. absurd (n refl)))
     (λ h. (refl, λ n. refl))
+
+-- what refused it is what is told as lost
+closing-long : (st : Admission) → ltb 24576 (st .counted) ≡ true → closingOf st ≡ 31
+unfolding closingOf
+closing-long st e = rw e
+
+ended-long : (st : Admission) → ltb 24576 (st .counted) ≡ true → lostOf (endedOf st .admission) ≡ endedOf st .refusal
+unfolding endedOf lostOf
+ended-long st e = rw (closing-long st e, e)
+
+ended-short : (st : Admission) → ltb 24576 (st .counted) ≡ false → lostOf (endedOf st .admission) ≡ endedOf st .refusal
+unfolding endedOf lostOf
+ended-short st e =
+    pick-cases (λ (a : Admitted). lostOf (a .admission) ≡ a .refusal) (eqb (closingOf st) 0) (answered 0 (admits st)) (answered (closingOf st) (withdraws (closingOf st) st))
+    (λ h. rw e)
+    (λ h. rw e)
+
+pub ended-lost : (st : Admission) → lostOf (endedOf st .admission) ≡ endedOf st .refusal
+ended-lost st = ⊎-elim (ended-long st) (ended-short st) (test (ltb 24576 (st .counted)))
 
 module _ (st : Admission) (s : Shut st) where
   late : st .closed ≡ 0 → ⊥

@@ -8,7 +8,7 @@ use mathlib.Core.Bool.{Bool, true, false}
 use mathlib.Core.List.{List, [], _∷_}
 use lib.Dec.{ltb, eqb}
 use lib.ListN.{length, getD, take, drop, set, replicate, length-drop, length-replicate, length-set}
-use lib.Seq.{take-all, drop-length, length-take-le, sets, getD-set-same, getD-set-other}
+use lib.Seq.{drop-cons, length-sets, take-all, drop-length, length-take-le, sets, getD-set-same, getD-set-other}
 use borrow.Author.Tests.{eqb-true, eqb-false, ne-eqb}
 use Rattle.basis.specs.Pick.{pick}
 use Rattle.basis.specs.Number.{numberAt}
@@ -26,7 +26,7 @@ use Rattle.admission.specs.Verdicts.{numberOf, placeOf, codesOf}
 use Rattle.admission.specs.Admission.{Mach, tagAt, cellsAt, lengthAt, verifiedOf, judgeOf, settleOf, settled}
 use Rattle.admission.specs.Fit.{Fit}
 use Rattle.admission.proofs.Fits.{judge-fit}
-use Rattle.streams.specs.Told.{judgedAs, ruledAt}
+use Rattle.streams.specs.Told.{judgedAs, ruledAt, cellsOf}
 use Rattle.streams.specs.Stands.{entryOf, Done, Ready, Part, good as whole-so-far}
 
 -- two cells tell the answer of a program that the verifier walks
@@ -38,6 +38,10 @@ told-back s e size few (names k a) h =
     let q : a % 65536 ≡ a = omega (arith, l .2) in
     rw (p, q, ne-eqb k 0 (λ z. omega (arith, z, l .0)))
 told-back s e size few (nameless k) h = absurd (small-walked s e size few k h)
+
+-- three cells in a row
+three : (v : List ℕ) (i : ℕ) → i + 3 ≤ length v → take 3 (drop i v) ≡ getD v i 0 ∷ getD v (suc i) 0 ∷ getD v (suc (suc i)) 0 ∷ []
+three v i h = rw (drop-cons v i 0 (omega arith), drop-cons v (suc i) 0 (omega arith), drop-cons v (suc (suc i)) 0 (omega arith))
 
 -- three cells are stored, and the others are kept
 module _ (v : List ℕ) (i a b c : ℕ) where
@@ -71,6 +75,26 @@ module _ (v : List ℕ) (i a b c : ℕ) where
       let z : getD after (suc (suc (3 * i))) 0 ≡ c =
       getD-set-same (set (set v (3 * i) a) (suc (3 * i)) b) (suc (suc (3 * i))) c 0 (rw length-set (rw length-set (omega arith))) in
       rw (one, two, x, y, z)
+
+  coded-here : 3 * i + 3 ≤ length v → cellsOf after i ≡ a ∷ b ∷ c ∷ []
+  coded-here h =
+      let x : getD after (3 * i) 0 ≡ a =
+      getD-set-other (set (set v (3 * i) a) (suc (3 * i)) b) (suc (suc (3 * i))) (3 * i) c 0 (λ e. omega (arith, e))
+      ∙ getD-set-other (set v (3 * i) a) (suc (3 * i)) (3 * i) b 0 (λ e. omega (arith, e))
+      ∙ getD-set-same v (3 * i) a 0 (omega arith) in
+      let y : getD after (suc (3 * i)) 0 ≡ b =
+      getD-set-other (set (set v (3 * i) a) (suc (3 * i)) b) (suc (suc (3 * i))) (suc (3 * i)) c 0 (λ e. omega (arith, e))
+      ∙ getD-set-same (set v (3 * i) a) (suc (3 * i)) b 0 (rw length-set (omega arith)) in
+      let z : getD after (suc (suc (3 * i))) 0 ≡ c =
+      getD-set-same (set (set v (3 * i) a) (suc (3 * i)) b) (suc (suc (3 * i))) c 0 (rw length-set (rw length-set (omega arith))) in
+      three after (3 * i) (rw length-sets h) ∙ rw (x, y, z)
+
+  coded-other : (j : ℕ) → j < i → 3 * j + 3 ≤ length v → cellsOf after j ≡ cellsOf v j
+  coded-other j h l =
+      let x = at-other (3 * j) (λ e. omega (arith, e)) (λ e. omega (arith, e)) (λ e. omega (arith, e)) in
+      let y = at-other (suc (3 * j)) (λ e. omega (arith, e)) (λ e. omega (arith, e)) (λ e. omega (arith, e)) in
+      let z = at-other (suc (suc (3 * j))) (λ e. omega (arith, e)) (λ e. omega (arith, e)) (λ e. omega (arith, e)) in
+      three after (3 * j) (rw length-sets l) ∙ rw (x, y, z) (sym (three v (3 * j) l))
 
 module _ (s : List ℕ) (n : ℕ) (m : Mach) (r : Ready s n m) (some : m .st .judged < n) where
   abbrev i : ℕ
@@ -128,6 +152,7 @@ module _ (s : List ℕ) (n : ℕ) (m : Mach) (r : Ready s n m) (some : m .st .ju
         record {
           fits = omega arith;
           said = said-here (m .verdicts) i _ _ _ (omega (arith, f .verdicts, r .few)) ∙ rw (tag-is, verdict-is, told-back s e (omega (arith, length-body s e, next-is .passed .length)) (next-is .passed .cells) (judgedOf s e) refl);
+          coded = coded-here (m .verdicts) i _ _ _ (omega (arith, f .verdicts, r .few)) ∙ rw (tag-is, verdict-is);
         }
 
     pub ready-next : Ready s n (judgeOf m)
@@ -160,7 +185,7 @@ module _ (s : List ℕ) (n : ℕ) (m : Mach) (r : Ready s n m) (some : m .st .ju
         }
       where
         old : (j : ℕ) → j < i → Done s (sets (m .verdicts) (3 * i) (codesOf (tagAt (m .contents) i) (verifiedOf m .0))) j
-        old j h = let d = r .done j h in record { fits = d .fits; said = said-other (m .verdicts) i _ _ _ j h ∙ d .said }
+        old j h = let d = r .done j h in record { fits = d .fits; said = said-other (m .verdicts) i _ _ _ j h ∙ d .said; coded = coded-other (m .verdicts) i _ _ _ j h (let q = f .verdicts in let w = r .few in omega arith) ∙ d .coded }
 
         dones : (j : ℕ) → j < i + 1 → Done s (sets (m .verdicts) (3 * i) (codesOf (tagAt (m .contents) i) (verifiedOf m .0))) j
         dones j h =

@@ -7,11 +7,12 @@ use mathlib.Core.Logic.{_⊎_, inl, inr, ⊎-elim}
 use mathlib.Core.List.{List, [], _∷_, _++_, map, append-nil, append-assoc}
 use mathlib.Core.Option.{some as some?, Option·none-ne-some, Option·some-injective}
 use lib.Dec.{ltb}
-use lib.ListN.{length, getElem?, length-append}
+use lib.ListN.{length, take, drop, getElem?, length-append, length-take, take-append-drop}
+use lib.Seq.{take-all}
 use borrow.Author.Tests.{lt-ltb, le-ltb, ltb-true, ltb-false}
 use Rattle.basis.specs.Answer.{given, refused}
-use Rattle.basis.proofs.Tests.{test, same?, given-one, refused-given}
-use Rattle.pack.specs.Contents.{entryAt, entriesFrom, endOf}
+use Rattle.basis.proofs.Tests.{test, same?, given-one, refused-given, refused-one}
+use Rattle.pack.specs.Contents.{firstOf, entryAt, entriesFrom, endOf}
 use Rattle.pack.specs.Read.{countOf, contentsOf, entriesOf, readOf}
 use Rattle.pack.specs.declared.Entry.{Entry}
 use Rattle.pack.proofs.Walks.{from-there, next}
@@ -26,7 +27,7 @@ use Rattle.admission.proofs.Tests.{start-sound, sound-whole, fit-roomy}
 use Rattle.admission.proofs.Fits.{chunk-fit}
 use Rattle.intake.proofs.Chunks.{chunk-taken}
 use Rattle.streams.specs.Told.{ruledAt, closedOf, Begun, Whole, admitAll, joined}
-use Rattle.streams.specs.Stands.{entryOf, Ready, Short, Part, cut, bad, good, Stands, over, some}
+use Rattle.streams.specs.Stands.{entryOf, Done, Ready, Short, Part, cut, bad, good, Stands, over, some}
 use Rattle.streams.proofs.Kept.{chunk-live}
 use Rattle.streams.proofs.Coming.{done-prefix, stands-chunk, stands-start}
 use Rattle.streams.proofs.Judging.{next-is}
@@ -76,41 +77,23 @@ mapped f [] j x h = absurd (Option·none-ne-some x h)
 mapped f (y ∷ xs) zero x h = ap (λ z. some? (f z)) (Option·some-injective y x h)
 mapped f (y ∷ xs) (suc j) x h = mapped f xs j x h
 
--- Verdicts before the close are those of every pack that these bytes begin, where they are not more than a pack has.
-provisional : (s t : List ℕ) (m : Mach) → Open s m → length s ≤ 24576 → (j : ℕ) → j < m .st .judged → ruledAt (m .verdicts) j ≡ rulingOf (s ++ t) (entryOf (s ++ t) j)
-provisional s t m o l j h = by (o .stands)
-  where
-    part : Part s m → ruledAt (m .verdicts) j ≡ rulingOf (s ++ t) (entryOf (s ++ t) j)
-    part (cut k) = let z = k .judged in absurd (omega arith)
-    part (bad b) = let z = b .judged in absurd (omega arith)
-    part (good n r q) = done-prefix s t (m .verdicts) j (let a = r .room in let b = r .judged in omega arith) (r .done j h) .said
+-- what an admission stands for tells how it was left: as the bytes that a pack can have left it
+left-by : (s : List ℕ) (m : Mach) → Stands s m → Part (take 24576 s) m
+left-by s m (over l c p) = p
+left-by s m (some l c p) = rw (take-all 24576 s l) p
 
-    by : Stands s m → ruledAt (m .verdicts) j ≡ rulingOf (s ++ t) (entryOf (s ++ t) j)
-    by (over k c) = absurd (omega arith)
-    by (some k c p) = part p
+-- A verdict that is told is the one that the bytes so far give its program, however many they are.
+done-part : (s : List ℕ) (m : Mach) (j : ℕ) → j < m .st .judged → Part s m → Done s (m .verdicts) j × (10 + 8 * j ≤ length s)
+done-part s m j h (cut k) = let z = k .judged in absurd (omega arith)
+done-part s m j h (bad b) = let z = b .judged in absurd (omega arith)
+done-part s m j h (good n r q) = (r .done j h, let a = r .room in let b = r .judged in omega arith)
 
--- Where the pack that these bytes begin is admitted, they are its verdicts, in their places.
-pub final : (s t : List ℕ) (m : Mach) (es : List Entry) → Open s m → readOf (s ++ t) ≡ given es → (j : ℕ) → j < m .st .judged → getElem? (map (rulingOf (s ++ t)) es) j ≡ some? (ruledAt (m .verdicts) j)
-unfolding entriesOf
-final s t m es o e j h = by (o .stands)
-  where
-    sound : Sound (s ++ t)
-    sound = read-sound (s ++ t) es e
-
-    small : length s ≤ 24576
-    small = let l = length-append s t in let z = sound .small in omega arith
-
-    part : Part s m → j < countOf (s ++ t)
-    part (cut k) = let z = k .judged in absurd (omega arith)
-    part (bad b) = let z = b .judged in absurd (omega arith)
-    part (good n r q) = let a = r .room in let b = r .judged in let c = r .is in let d : countOf (s ++ t) ≡ countOf s = count-prefix s t (omega arith) in omega arith
-
-    by : Stands s m → getElem? (map (rulingOf (s ++ t)) es) j ≡ some? (ruledAt (m .verdicts) j)
-    by (over k c) = let z = small in absurd (omega arith)
-    by (some k c p) =
-        let q : entriesFrom (s ++ t) 2 (countOf (s ++ t)) ≡ es = given-one _ _ (sym (sound-read (s ++ t) sound) ∙ e) in
-        let u : getElem? es j ≡ some? (entryOf (s ++ t) j) = rw (← q) (from-there (s ++ t) 2 (countOf (s ++ t)) j (part p)) in
-        mapped (rulingOf (s ++ t)) es j (entryOf (s ++ t) j) u ∙ ap some? (sym (provisional s t m o k j h))
+pub told-right : (s : List ℕ) (m : Mach) → Open s m → (j : ℕ) → j < m .st .judged → Done s (m .verdicts) j × (10 + 8 * j ≤ length s)
+told-right s m o j h =
+    let d = done-part (take 24576 s) m j h (left-by s m (o .stands)) in
+    let e = done-prefix (take 24576 s) (drop 24576 s) (m .verdicts) j (d .1) (d .0) in
+    let l = length-take {A = ℕ} 24576 s in
+    (rw (take-append-drop 24576 s) at e, omega (arith, d .1, l))
 
 -- bodies stand where they are due, or later
 from-at : (s : List ℕ) (least at end p k : ℕ) → endOf least at (entriesFrom s p k) ≡ given end → (i : ℕ) → i < k → at ≤ entryAt s (p + 8 * i) .offset
@@ -154,35 +137,40 @@ waits s n m r q j l h = ⊎-elim here behind (same? j (m .st .judged))
         let y : r .at + entryOf s i .length ≤ entryOf s j .offset = rw z at k in
         omega (arith, d, y)
 
--- A program has its verdict exactly when it is whole.
-module _ (s : List ℕ) (m : Mach) (o : Open s m) (small : length s ≤ 24576) (j : ℕ) where
-  pub judged-whole : j < m .st .judged → Whole s j
-  judged-whole h = by (o .stands)
-    where
-      part : Part s m → Whole s j
-      part (cut k) = let z = k .judged in absurd (omega arith)
-      part (bad b) = let z = b .judged in absurd (omega arith)
-      part (good n r q) = record { end = m .st .end; good = r .ends; few = let a = r .judged in let b = r .is in omega arith; fits = r .done j h .fits }
+-- A program has its verdict exactly when it is whole, in the bytes that a pack can have.
+whole-part : (s : List ℕ) (m : Mach) (j : ℕ) → Part s m → (j < m .st .judged → Whole s j) × (Whole s j → j < m .st .judged)
+whole-part s m j (cut k) = ((λ h. let z = k .judged in absurd (omega arith)), (λ w. absurd (refused-given _ _ (sym (cut-refused s m k) ∙ w .good))))
+whole-part s m j (bad b) = ((λ h. let z = b .judged in absurd (omega arith)), (λ w. absurd (refused-given _ _ (sym (rw append-nil at (b .always [])) ∙ w .good))))
+whole-part s m j (good n r q) = (
+  (λ h. record { end = m .st .end; good = r .ends; few = let a = r .judged in let b = r .is in omega arith; fits = r .done j h .fits }),
+  (λ w. ⊎-elim
+  (λ t. ltb-true _ _ t)
+  (λ t. let l = waits s n m r q j (ltb-false j (m .st .judged) t) (let a = r .is in let f = w .few in omega arith) in let f = w .fits in absurd (omega arith))
+  (test (ltb j (m .st .judged)))),
+)
 
-      by : Stands s m → Whole s j
-      by (over k c) = absurd (omega arith)
-      by (some k c p) = part p
+module _ (s : List ℕ) (m : Mach) (o : Open s m) (j : ℕ) where
+  pub judged-whole : j < m .st .judged → Whole (take 24576 s) j
+  judged-whole = whole-part (take 24576 s) m j (left-by s m (o .stands)) .0
 
-  pub whole-judged : Whole s j → j < m .st .judged
-  whole-judged w = by (o .stands)
-    where
-      part : Part s m → j < m .st .judged
-      part (cut k) = absurd (refused-given _ _ (sym (cut-refused s m k) ∙ w .good))
-      part (bad b) = absurd (refused-given _ _ (sym (rw append-nil at (b .always [])) ∙ w .good))
-      part (good n r q) =
-          ⊎-elim
-          (λ t. ltb-true _ _ t)
-          (λ t. let l = waits s n m r q j (ltb-false j (m .st .judged) t) (let a = r .is in let f = w .few in omega arith) in let f = w .fits in absurd (omega arith))
-          (test (ltb j (m .st .judged)))
+  pub whole-judged : Whole (take 24576 s) j → j < m .st .judged
+  whole-judged = whole-part (take 24576 s) m j (left-by s m (o .stands)) .1
 
-      by : Stands s m → j < m .st .judged
-      by (over k c) = absurd (omega arith)
-      by (some k c p) = part p
+-- Where the pack that these bytes begin is admitted, they are its verdicts, in their places.
+pub final : (s t : List ℕ) (m : Mach) (es : List Entry) → Open s m → readOf (s ++ t) ≡ given es → (j : ℕ) → j < m .st .judged → getElem? (map (rulingOf (s ++ t)) es) j ≡ some? (ruledAt (m .verdicts) j)
+unfolding entriesOf
+final s t m es o e j h =
+    let d = told-right s m o j h in
+    let p = done-prefix s t (m .verdicts) j (d .1) (d .0) in
+    let z = sound .small in
+    let w = judged-whole s m o j h in
+    let f : j < countOf (s ++ t) = rw (count-prefix s t (omega (arith, d .1))) (rw (take-all 24576 s (let l = length-append s t in omega arith)) at (w .few)) in
+    let q : entriesFrom (s ++ t) 2 (countOf (s ++ t)) ≡ es = given-one _ _ (sym (sound-read (s ++ t) sound) ∙ e) in
+    let u : getElem? es j ≡ some? (entryOf (s ++ t) j) = rw (← q) (from-there (s ++ t) 2 (countOf (s ++ t)) j f) in
+    mapped (rulingOf (s ++ t)) es j (entryOf (s ++ t) j) u ∙ ap some? (sym (p .said))
+  where
+    sound : Sound (s ++ t)
+    sound = read-sound (s ++ t) es e
 
 -- What is lost stays lost: by this number, or by 31 if more comes than a pack has.
 pub lost-refused : (s t : List ℕ) (m : Mach) (k : ℕ) → Open s m → lostOf (m .st) ≡ k → (k ≡ 0 → ⊥) → (readOf (s ++ t) ≡ refused k) ⊎ (readOf (s ++ t) ≡ refused 31)
@@ -202,5 +190,31 @@ lost-refused s t m k o e n = by (o .stands)
         (test (ltb 24576 (length (s ++ t))))
 
     by : Stands s m → (readOf (s ++ t) ≡ refused k) ⊎ (readOf (s ++ t) ≡ refused 31)
-    by (over l c) = long (let z = length-append s t in omega arith)
+    by (over l c p) = long (let z = length-append s t in omega arith)
     by (some l c p) = part (rw (le-ltb 24576 (m .st .counted) (omega arith)) at e) p
+
+-- and it is told as soon as it is known: that there are more bytes than a pack has, or that the contents, once they are whole, are refused
+pub long-lost : (s : List ℕ) (m : Mach) → Open s m → 24576 < length s → lostOf (m .st) ≡ 31
+unfolding lostOf
+long-lost s m o h = by (o .stands)
+  where
+    by : Stands s m → lostOf (m .st) ≡ 31
+    by (over l c p) = rw (lt-ltb 24576 (m .st .counted) (omega arith))
+    by (some l c p) = absurd (omega arith)
+
+pub refused-lost : (s : List ℕ) (m : Mach) (k : ℕ) → Open s m → length s ≤ 24576 → 2 ≤ length s → (countOf s ≤ 64 → firstOf (countOf s) ≤ length s) → contentsOf s ≡ refused k → lostOf (m .st) ≡ k
+unfolding lostOf
+refused-lost s m k o small two whole e = by (o .stands)
+  where
+    part : m .st .counted ≡ length s → Part s m → lostOf (m .st) ≡ k
+    part c (cut x) =
+        let w : m .st .want ≡ firstOf (countOf s) = x .want ∙ rw (le-ltb (length s) 2 two) in
+        let z = whole (x .few two) in
+        let y = x .less in
+        absurd (omega arith)
+    part c (bad b) = rw (le-ltb 24576 (m .st .counted) (omega arith)) (refused-one _ _ (sym (rw append-nil at (b .always [])) ∙ e))
+    part c (good n r q) = absurd (refused-given k (m .st .end) (sym e ∙ r .ends))
+
+    by : Stands s m → lostOf (m .st) ≡ k
+    by (over l c p) = absurd (omega arith)
+    by (some l c p) = part c p

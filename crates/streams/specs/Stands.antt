@@ -10,8 +10,9 @@ use Rattle.pack.specs.Contents.{firstOf, entryAt, entriesFrom, endOf}
 use Rattle.pack.specs.Read.{countOf, contentsOf}
 use Rattle.pack.specs.declared.Entry.{Entry}
 use Rattle.admission.specs.Admission.{Mach}
-use Rattle.rulings.specs.Rulings.{rulingOf}
-use Rattle.streams.specs.Told.{ruledAt}
+use Rattle.rulings.specs.Rulings.{judgedOf, rulingOf}
+use Rattle.admission.specs.Verdicts.{codesOf}
+use Rattle.streams.specs.Told.{ruledAt, cellsOf}
 
 abbrev pub entryOf : List ℕ → ℕ → Entry
 entryOf s i = entryAt s (2 + 8 * i)
@@ -43,6 +44,7 @@ pub record Bad (s : List ℕ) (m : Mach) : Type 0 where
 pub record Done (s cells : List ℕ) (j : ℕ) : Type 0 where
   pub fits : entryOf s j .offset + entryOf s j .length ≤ length s
   pub said : ruledAt cells j ≡ rulingOf s (entryOf s j)
+  pub coded : cellsOf cells j ≡ codesOf (entryOf s j .tag) (judgedOf s (entryOf s j))
 
 -- the contents are good and name n programs; the body of the program at the index `judged` begins at the place `at`
 pub record Ready (s : List ℕ) (n : ℕ) (m : Mach) : Type 0 where
@@ -73,7 +75,7 @@ pub data Part (s : List ℕ) (m : Mach) : Type 0 where
   bad : Bad s m → Part s m
   good : (n : ℕ) → Ready s n m → Short s n m → Part s m
 
--- more bytes than a pack has, or these
+-- more bytes than a pack has, and then it is left as those that a pack can have left it; or these
 pub data Stands (s : List ℕ) (m : Mach) : Type 0 where
-  over : 24576 < length s → m .st .counted ≡ 24577 → Stands s m
+  over : 24576 < length s → m .st .counted ≡ 24577 → Part (take 24576 s) m → Stands s m
   some : length s ≤ 24576 → m .st .counted ≡ length s → Part s m → Stands s m

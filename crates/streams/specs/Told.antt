@@ -2,7 +2,7 @@
 use Prim.Native.Nat.{ℕ, zero, suc, _+_, _*_, _≤_, _<_}
 use mathlib.Core.Path.{_≡_}
 use mathlib.Core.List.{List, [], _∷_, _++_}
-use lib.ListN.{length, getD, drop}
+use lib.ListN.{length, getD, take, drop}
 use lib.Dec.{eqb}
 use Rattle.basis.specs.Pick.{pick}
 use Rattle.basis.specs.Answer.{Answer, given, refused}
@@ -18,7 +18,11 @@ use Rattle.admission.specs.declared.Admitted.{Admitted}
 abbrev pub judgedAs : ℕ → ℕ → Judged
 judgedAs number place = pick (eqb number 0) good (names number place)
 
--- the verdict at an index, in its three cells, and so many from an index on
+-- the three cells of the verdict at an index
+abbrev pub cellsOf : List ℕ → ℕ → List ℕ
+cellsOf cells i = take 3 (drop (3 * i) cells)
+
+-- the verdict that they tell, and so many from an index on
 abbrev pub ruledAt : List ℕ → ℕ → Ruling
 ruledAt cells i = (getD cells (3 * i) 0, judgedAs (getD cells (3 * i + 1) 0) (getD cells (3 * i + 2) 0))
 

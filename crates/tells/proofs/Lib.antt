@@ -3,3 +3,4 @@ pub mod Tells
 pub mod States
 pub mod Judges
 pub mod Numbers
+pub mod Admissions

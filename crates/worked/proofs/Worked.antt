@@ -13,6 +13,10 @@ use Rattle.machine.specs.Run.{runOf, outcomeOf}
 use Rattle.paths.specs.Walk.{walk, turns, turn, lowest, meets, meet}
 use Rattle.look.specs.Look.{lookOf}
 use Rattle.verifier.specs.Verify.{verifyOf}
+use Rattle.rulings.specs.Rulings.{judgedOf, rulingsOf}
+use Rattle.admission.specs.Numbers.{wildOf, tornOf, damagedOf, lostOf}
+use Rattle.admission.specs.Admission.{judgeOf, settled, sizedOf, openedOf, contentsByte, bodyByte, byteOf, closingOf, endedOf, closeOf, askOf}
+use Rattle.streams.specs.Told.{toldBy}
 use Rattle.halving.specs.Halving.{narrowed, roundsOf, reached}
 use Rattle.pack.specs.Contents.{entryAt, refusalOf}
 use Rattle.pack.specs.Read.{entriesOf, heldOf, contentsOf, readOf}
@@ -26,7 +30,7 @@ use Rattle.worked.specs.Flow.{ordered, led, asked, pushed}
 use Rattle.worked.specs.Faults.{past, illegal, unread, cut, few, full, outside, apart}
 use Rattle.worked.specs.Walk.{mapped, walked, followed}
 use Rattle.worked.specs.Instructions.{read}
-use Rattle.worked.specs.Worked.{Operations, Faults, Walks, Values, States, Packs, Worked}
+use Rattle.worked.specs.Worked.{Operations, Faults, Walks, Values, States, Packs, Downloads, Worked}
 use Rattle.worked.proofs.Again.{all-again}
 
 pub operations-hold : Operations
@@ -79,6 +83,13 @@ unfolding readOf contentsOf entriesOf entryAt refusalOf findOf lookupOf heldOf h
 packs-hold =
     ((refl, refl, refl, refl, refl, refl, refl, refl, refl, refl, refl, refl, refl, refl, refl, refl, refl, refl, refl, refl, refl, refl), (refl, refl, refl, refl, refl, refl, refl, refl, refl, refl, refl, refl, refl, refl, refl, refl, refl, refl, refl, refl, refl, refl, refl, refl, refl, refl), (refl, refl, refl, refl, refl, refl, refl, refl, refl, refl, refl))
 
+pub downloads-hold : Downloads
+unfolding rulingsOf judgedOf toldBy closeOf endedOf closingOf askOf damagedOf wildOf tornOf lostOf byteOf contentsByte bodyByte sizedOf openedOf settled judgeOf readOf contentsOf entriesOf entryAt refusalOf verifyOf walk turns turn lowest meets meet lookOf depthAfter opOf opIn decodeOf headOf lengthOf formOf codeOf valueWidth ones
+downloads-hold = (
+  ((refl, refl), (refl, refl), (refl, refl), (refl, refl), (refl, refl), (refl, refl), (refl, refl), (refl, refl), (refl, refl), (refl, refl), (refl, refl), (refl, refl), (refl, refl), (refl, refl), (refl, refl), (refl, refl), (refl, refl)),
+  ((refl, refl), (refl, refl), (refl, refl), (refl, refl), (refl, refl), (refl, refl), (refl, refl), (refl, refl), (refl, refl), refl, refl, refl),
+)
+
 -- every row
 pub all-worked : Worked
-all-worked = (operations-hold, faults-hold, walks-hold, values-hold, states-hold, packs-hold)
+all-worked = (operations-hold, faults-hold, walks-hold, values-hold, states-hold, packs-hold, downloads-hold)

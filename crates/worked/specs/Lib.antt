@@ -8,4 +8,5 @@ pub mod Walk
 pub mod Instructions
 pub mod States
 pub mod Packs
+pub mod Downloads
 pub mod Worked

@@ -8,6 +8,7 @@ use Rattle.worked.specs.Walk.{mapped, walked, followed}
 use Rattle.worked.specs.Instructions.{read, Written}
 use Rattle.worked.specs.States.{Resumed, Refused}
 use Rattle.worked.specs.Packs.{ReadPacks, LookedUp, WrittenPacks}
+use Rattle.worked.specs.Downloads.{Closed, Open}
 
 -- the operations of 01 by families
 abbrev pub Operations : Type 0
@@ -35,5 +36,9 @@ States = Resumed × Refused
 abbrev pub Packs : Type 0
 Packs = ReadPacks × LookedUp × WrittenPacks
 
+-- packs that come byte by byte
+abbrev pub Downloads : Type 0
+Downloads = Closed × Open
+
 abbrev pub Worked : Type 0
-Worked = Operations × Faults × Walks × Values × States × Packs
+Worked = Operations × Faults × Walks × Values × States × Packs × Downloads
