@@ -252,11 +252,11 @@ static khx_admitted promise_closes(const admission *one, const course *now)
 static void promise_given(const khx_admission *whole, const course *now, size_t count)
 {
     for (size_t i = 0; i <= KHX_ENTRIES_MAX; i++) {
-        const uint16_t none[3] = {0, KHX_ADMISSION_DAMAGED, 0};
+        const uint16_t none[3] = {0, KHX_ADMISSION_VERDICT, 0};
         const uint16_t *cells = i < count ? now->cells + 3 * i : none;
         khx_verdict verdict = khx_admission_verdict(whole, i);
         promise(khx_admission_tag(whole, i) == cells[0] && verdict.refusal == cells[1] && verdict.at == cells[2],
-                "a verdict is given by its index, and past the last 91");
+                "a verdict is given by its index, and past the last 92");
     }
 }
 

@@ -70,7 +70,8 @@ enum {
     KHX_PACK_ABSENT = 36,    /* pack: no such tag */
     KHX_CLOSED = 37,         /* admission: a chunk or a second close after the close */
     KHX_ADMISSION_MEMORY = 90,   /* admission: a memory lent is shorter than stated */
-    KHX_ADMISSION_DAMAGED = 91   /* admission: its numbers are none that one has: not begun, or written over */
+    KHX_ADMISSION_DAMAGED = 91,  /* admission: its numbers are none that one has: not begun, or written over */
+    KHX_ADMISSION_VERDICT = 92   /* admission: no verdict at that index */
 };
 
 /* A machine's status. */
@@ -166,7 +167,8 @@ typedef struct khx_entry {
  * How an admission stands: by 90 and 91 all else is 0, by any other refusal it is told as without one. `closed` is 1 after the
  * close and 0 before it. `verdicts` is how many programs have their verdict, at most KHX_ENTRIES_MAX: provisional ones before the
  * close, final ones after it, and none of a pack that the close refused. Where `lost` is not 0 the pack is refused whatever
- * follows, by this number, or by 31 if it comes to over KHX_PACK_MAX bytes: a host may stop there, and close.
+ * follows, by this number, or by 31 if it comes to over KHX_PACK_MAX bytes: a host may stop there, and close. It is told once the contents
+ * are whole (30, 32, 33, 35; 30 for too large a count after two bytes) or a byte too many has come (31); 34 comes with the close alone.
  */
 typedef struct khx_admitted {
     size_t refusal;
@@ -293,10 +295,13 @@ khx_written khx_report(const uint8_t *pack, size_t pack_length, uint16_t *map, s
  *   contents   KHX_CONTENTS_MAX bytes   the pack's contents, as far as they have come
  *   body       KHX_PROGRAM_MAX bytes    the program that is under way, as far as it has come
  *   map        KHX_PROGRAM_MAX cells    each program is verified over it
- *   verdicts   KHX_VERDICT_CELLS        three for each program, in the pack's order: its tag, then `refusal` and `at` of its verdict
+ *   verdicts   KHX_VERDICT_CELLS        three for each program, in the pack's order: its tag, then `refusal` and `at` of its verdict;
+ *                                       cells past the `verdicts` that an answer tells mean nothing, and those of a refused pack stay there
  *
- * All but the numbers may hold anything at the start. Longer memories are taken, and nothing past these sizes is touched. Do not
- * copy one that is open: a copy goes on as if the close had not been, and nothing here tells it from the first.
+ * All but the numbers may hold anything at the start. Longer memories are taken, and nothing past these sizes is touched. The
+ * memories and the chunk overlap nowhere. 91 finds numbers that no admission has, and not every damage: what was written over
+ * may pass for another admission's. It never leads past the memory that is lent. Do not copy one that is open: a copy goes on
+ * as if the close had not been, and nothing here tells it from the first.
  */
 
 /* Begins an admission: writes the eight numbers, and touches nothing else. Refusal: 90. */
@@ -344,19 +349,22 @@ static inline khx_admitted khx_admission_ask(const khx_admission *admission)
     return khx_admit_ask(admission->numbers, KHX_ADMISSION_NUMBERS);
 }
 
-/* The tag of the program whose verdict is at an index, the first being 0; 0 where the index is not below `verdicts` of the answer. */
+/*
+ * The tag of the program whose verdict is at an index, the first being 0. It is 0 where the index is not below `verdicts` of the answer,
+ * and so may a tag be: khx_admission_verdict tells the two apart.
+ */
 static inline uint16_t khx_admission_tag(const khx_admission *admission, size_t index)
 {
     return index < khx_admission_ask(admission).verdicts ? admission->verdicts[3 * index] : (uint16_t)0;
 }
 
 /*
- * The verdict at an index, provisional before the close. Refusals: 91 where the index is not below `verdicts` of the answer; then
+ * The verdict at an index, provisional before the close. Refusals: 92 where the index is not below `verdicts` of the answer; else
  * the program's own.
  */
 static inline khx_verdict khx_admission_verdict(const khx_admission *admission, size_t index)
 {
-    khx_verdict verdict = {KHX_ADMISSION_DAMAGED, 0};
+    khx_verdict verdict = {KHX_ADMISSION_VERDICT, 0};
     if (index < khx_admission_ask(admission).verdicts) {
         verdict.refusal = admission->verdicts[3 * index + 1];
         verdict.at = admission->verdicts[3 * index + 2];

@@ -23,7 +23,7 @@ use Rattle.admission.specs.Numbers.{damagedOf, lostOf}
 use Rattle.admission.specs.Admission.{Mach, mach, shortOf, chunkOf, admitOf, answered, closeOf, askOf}
 use Rattle.admission.specs.declared.Admission.{Admission}
 use Rattle.admission.specs.declared.Admitted.{Admitted}
-use Rattle.streams.specs.Told.{cellsOf, ruledAt, closedOf, Begun, Within, Whole, admitAll, joined}
+use Rattle.streams.specs.Told.{cellsOf, ruledAt, closedOf, Begun, Within, Alike, SameVerdicts, Whole, admitAll, joined}
 
 -- "Admit a pack in chunks of any length, zero too": before the close every chunk is taken, whatever came before it.
 unfoldable pub TakesAnyChunk : Type 0
@@ -33,6 +33,15 @@ TakesAnyChunk = (cs : List (List ℕ)) (c : List ℕ) (m : Mach) → Begun m →
 -- cells of a map and the 192 of the verdicts, however long the pack is.
 unfoldable pub KeepsOnlyThese : Type 0
 KeepsOnlyThese = (c : List ℕ) (m : Mach) → Within m (admitOf c m .1)
+
+-- and it keeps nothing else in it: what it does from now on, and the verdicts that it tells, depend on its numbers, the contents and the bytes of the one body
+-- under way alone. Two admissions that agree in these agree after any chunk, whatever else their memory holds.
+unfoldable pub KeepsNothingElse : Type 0
+KeepsNothingElse =
+    (c : List ℕ) (m n : Mach) → shortOf (m .contents) (m .body) (m .map) (m .verdicts) ≡ false → shortOf (n .contents) (n .body) (n .map) (n .verdicts) ≡ false
+    → damagedOf (m .st) ≡ false → Alike m n
+    → (admitOf c m .0 ≡ admitOf c n .0) × Alike (admitOf c m .1) (admitOf c n .1)
+    × (SameVerdicts (m .st .judged) (m .verdicts) (n .verdicts) → SameVerdicts (admitOf c m .1 .st .judged) (admitOf c m .1 .verdicts) (admitOf c n .1 .verdicts))
 
 -- "At the close, each program's verdict and the pack's own answer equal those of the whole pack, wherever it was cut."
 unfoldable pub ClosesAsWhole : Type 0

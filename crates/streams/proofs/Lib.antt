@@ -5,4 +5,5 @@ pub mod Coming
 pub mod Closing
 pub mod Ending
 pub mod Within
+pub mod Alike
 pub mod Streams

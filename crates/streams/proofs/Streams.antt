@@ -144,9 +144,9 @@ whole-part s m j (bad b) = ((λ h. let z = b .judged in absurd (omega arith)), (
 whole-part s m j (good n r q) = (
   (λ h. record { end = m .st .end; good = r .ends; few = let a = r .judged in let b = r .is in omega arith; fits = r .done j h .fits }),
   (λ w. ⊎-elim
-  (λ t. ltb-true _ _ t)
-  (λ t. let l = waits s n m r q j (ltb-false j (m .st .judged) t) (let a = r .is in let f = w .few in omega arith) in let f = w .fits in absurd (omega arith))
-  (test (ltb j (m .st .judged)))),
+      (λ t. ltb-true _ _ t)
+      (λ t. let l = waits s n m r q j (ltb-false j (m .st .judged) t) (let a = r .is in let f = w .few in omega arith) in let f = w .fits in absurd (omega arith))
+      (test (ltb j (m .st .judged)))),
 )
 
 module _ (s : List ℕ) (m : Mach) (o : Open s m) (j : ℕ) where

@@ -72,3 +72,14 @@ admitAll (c ∷ cs) m = admitAll cs (admitOf c m .1)
 abbrev pub joined : List (List ℕ) → List ℕ
 joined [] = []
 joined (c ∷ cs) = c ++ joined cs
+
+-- "keeping only the contents and one body at a time": two admissions that keep the same, which is the numbers, the contents, and the bytes of the one
+-- body under way
+pub record Alike (m n : Mach) : Type 0 where
+  pub st : m .st ≡ n .st
+  pub contents : take 514 (m .contents) ≡ take 514 (n .contents)
+  pub body : take (m .st .have) (m .body) ≡ take (m .st .have) (n .body)
+
+-- the cells of the first k verdicts are the same
+abbrev pub SameVerdicts : ℕ → List ℕ → List ℕ → Type 0
+SameVerdicts k v w = take (3 * k) v ≡ take (3 * k) w
