@@ -18,7 +18,7 @@ use Rattle.paths.proofs.Walks.{final}
 use Rattle.look.specs.Look.{lookOf}
 use Rattle.meeting.specs.Clash.{twoDepths}
 use Rattle.verifier.specs.Verify.{nameless, walkOf, onWalk, verifyOf}
-use Rattle.pack.specs.Contents.{firstOf, refusalOf, entriesFrom, endOf}
+use Rattle.pack.specs.Contents.{firstOf, refusalOf, endOf}
 use Rattle.pack.specs.Read.{countOf, contentsOf, entriesOf}
 use Rattle.pack.specs.declared.Entry.{Entry}
 use Rattle.pack.proofs.Sounds.{ended-whole}

@@ -2,13 +2,13 @@
 -- Assumes nothing.
 use Prim.Native.Nat.{ℕ, _≤_, _<_}
 use native.Mathlib.Omega.{arith}
-use mathlib.Core.Path.{_≡_, refl, sym, _∙_}
+use mathlib.Core.Path.{_≡_, refl, sym}
 use mathlib.Core.Logic.{_⊎_, inl, inr, ⊎-elim}
 use mathlib.Core.Bool.{Bool, true, false, not}
 use mathlib.Core.List.{List}
 use lib.Dec.{ltb, eqb}
 use lib.ListN.{length}
-use borrow.Author.Tests.{ltb-true, ltb-false, eqb-true, eqb-false, lt-ltb, le-ltb, eq-eqb, ne-eqb}
+use borrow.Author.Tests.{ltb-true, ltb-false, eqb-true, le-ltb, eq-eqb, ne-eqb}
 use Rattle.basis.specs.Pick.{pick}
 use Rattle.basis.proofs.Tests.{test, false-true, same?}
 use Rattle.admission.specs.Numbers.{startOf, wildOf, tornOf, damagedOf}
@@ -22,24 +22,34 @@ pick-second true u h = absurd (false-true (sym h))
 pick-second false u h = (refl, h)
 
 module _ (st : Admission) where
-  record Bounded : Type 0 where
-    counted : st .counted ≤ 24577
-    least : 2 ≤ st .want
-    want : st .want ≤ 514
-    programs : st .programs ≤ 64
-    judged : st .judged ≤ st .programs
-    have : st .have ≤ 16384
-    closed : st .closed ≤ 1
+  abbrev Agrees : Type 0
+  Agrees = (st .counted < st .want → st .programs ≡ 0) × ((st .refusal ≡ 0) ⊎ ((st .programs ≡ 0) × (30 ≤ st .refusal) × (st .refusal ≤ 35)))
 
-  tame : wildOf st ≡ false → Bounded
-  unfolding wildOf
-  tame h =
-      let a = pick-second _ _ h in
+  agrees : tornOf st ≡ false → Agrees
+  unfolding tornOf
+  agrees h = by (eqb (st .programs) 0) (eqb (st .refusal) 0) (ltb (st .refusal) 30) (ltb 35 (st .refusal)) (ltb (st .counted) (st .want)) refl refl refl refl refl h
+    where
+      by : (p r l m e : Bool) → eqb (st .programs) 0 ≡ p → eqb (st .refusal) 0 ≡ r → ltb (st .refusal) 30 ≡ l → ltb 35 (st .refusal) ≡ m → ltb (st .counted) (st .want) ≡ e
+          → pick p (pick r false (pick l true m)) (pick e true (not r)) ≡ false → Agrees
+      by true true l m e p r x y z q = (λ u. eqb-true _ _ p, inl (eqb-true _ _ r))
+      by true false true m e p r x y z q = absurd (false-true (sym q))
+      by true false false true e p r x y z q = absurd (false-true (sym q))
+      by true false false false e p r x y z q = (λ u. eqb-true _ _ p, inr (eqb-true _ _ p, ltb-false _ _ x, ltb-false _ _ y))
+      by false r l m true p x y w z q = absurd (false-true (sym q))
+      by false true l m false p r x y z q = (λ u. let v = ltb-false (st .counted) (st .want) z in absurd (omega arith), inl (eqb-true _ _ r))
+      by false false l m false p r x y z q = absurd (false-true (sym q))
+
+  pub whole-sound : damagedOf st ≡ false → Sound st
+  unfolding damagedOf wildOf
+  whole-sound h =
+      let z = pick-second _ _ h in
+      let a = pick-second _ _ (z .0) in
       let b = pick-second _ _ (a .1) in
       let c = pick-second _ _ (b .1) in
       let d = pick-second _ _ (c .1) in
       let e = pick-second _ _ (d .1) in
       let f = pick-second _ _ (e .1) in
+      let g = agrees (z .1) in
       record {
         counted = ltb-false _ _ (a .0);
         least = ltb-false _ _ (b .0);
@@ -48,42 +58,8 @@ module _ (st : Admission) where
         judged = ltb-false _ _ (e .0);
         have = ltb-false _ _ (f .0);
         closed = ltb-false _ _ (f .1);
-      }
-
-  record Agreeing : Type 0 where
-    early : st .counted < st .want → st .programs ≡ 0
-    told : (st .refusal ≡ 0) ⊎ ((st .programs ≡ 0) × (30 ≤ st .refusal) × (st .refusal ≤ 35))
-
-  agrees : tornOf st ≡ false → Agreeing
-  unfolding tornOf
-  agrees h = by (eqb (st .programs) 0) (eqb (st .refusal) 0) (ltb (st .refusal) 30) (ltb 35 (st .refusal)) (ltb (st .counted) (st .want)) refl refl refl refl refl h
-    where
-      by : (p r l m e : Bool) → eqb (st .programs) 0 ≡ p → eqb (st .refusal) 0 ≡ r → ltb (st .refusal) 30 ≡ l → ltb 35 (st .refusal) ≡ m → ltb (st .counted) (st .want) ≡ e
-          → pick p (pick r false (pick l true m)) (pick e true (not r)) ≡ false → Agreeing
-      by true true l m e p r x y z q = record { early = λ u. eqb-true _ _ p; told = inl (eqb-true _ _ r) }
-      by true false true m e p r x y z q = absurd (false-true (sym q))
-      by true false false true e p r x y z q = absurd (false-true (sym q))
-      by true false false false e p r x y z q = record { early = λ u. eqb-true _ _ p; told = inr (eqb-true _ _ p, ltb-false _ _ x, ltb-false _ _ y) }
-      by false r l m true p x y w z q = absurd (false-true (sym q))
-      by false true l m false p r x y z q = record { early = λ u. let v = ltb-false (st .counted) (st .want) z in absurd (omega arith); told = inl (eqb-true _ _ r) }
-      by false false l m false p r x y z q = absurd (false-true (sym q))
-
-  pub whole-sound : damagedOf st ≡ false → Sound st
-  unfolding damagedOf
-  whole-sound h =
-      let a = pick-second _ _ h in
-      let b = tame (a .0) in
-      let c = agrees (a .1) in
-      record {
-        counted = b .counted;
-        least = b .least;
-        want = b .want;
-        programs = b .programs;
-        judged = b .judged;
-        have = b .have;
-        closed = b .closed;
-        early = c .early;
-        told = c .told;
+        early = g .0;
+        told = g .1;
       }
 
   module _ (s : Sound st) where

@@ -1,6 +1,6 @@
 -- The admission of a pack: what each byte of it does to the numbers and to the lent memory, and what a chunk and the close answer.
 use Prim.Native.Nat.{ℕ, zero, suc, _+_, _-_, _*_}
-use mathlib.Core.Bool.{Bool, true, false}
+use mathlib.Core.Bool.{Bool, true}
 use mathlib.Core.List.{List, [], _∷_, _++_}
 use lib.ListN.{length, take, drop, set}
 use lib.Seq.{sets}
@@ -47,7 +47,7 @@ judgeOf m =
     (verifiedOf m .1 ++ drop (m .st .have) (m .map))
     (sets (m .verdicts) (3 * m .st .judged) (codesOf (tagAt (m .contents) (m .st .judged)) (verifiedOf m .0)))
 
--- each program whose body is whole, as many as there are at most: one, and after it those of no bytes
+-- Every program whose body is whole gets it, the one under way and those of no bytes behind it; k of them at most are left.
 abbrev pub settleOf : ℕ → Mach → Mach
 settleOf zero m = m
 settleOf (suc k) m = pick (eqb (m .st .have) (lengthAt (m .contents) (m .st .judged))) (settleOf k (judgeOf m)) m
@@ -81,7 +81,8 @@ bodyByte b m = settled (mach (judges (m .st .judged) (m .st .have + 1) (counts (
 abbrev pub countedAs : ℕ → Mach → Mach
 countedAs k m = mach (counts k (m .st)) (m .contents) (m .body) (m .map) (m .verdicts)
 
--- one byte: past the 24,576 of a pack it is counted as one too many, and no further; else it belongs to the contents, to the next body, or to neither
+-- One byte: past the 24,576 of a pack it is counted as one too many, and no further; else it belongs to the contents, to the next body, or to neither. (No
+-- admission that was begun has 16,384 bytes of a body that is not whole; numbers that were written over may say so, and then the byte is only counted.)
 unfoldable pub byteOf : ℕ → Mach → Mach
 byteOf b m =
     pick (ltb (m .st .counted) 24576)

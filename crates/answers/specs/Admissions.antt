@@ -54,10 +54,10 @@ pub record Lent : Type 0 where
 abbrev pub lent : KhxAdmitted → List ℕ → List ℕ → List ℕ → List ℕ → List ℕ → Lent
 lent r xs c b m v = record { answer = r; numbers = xs; contents = c; body = b; map = m; verdicts = v }
 
-abbrev pub outcomeIn : Outcome → List ℕ → Lent
-outcomeIn o xs = lent (toldIn (o .0) (o .1 .st)) (keptIn (o .1 .st) xs) (o .1 .contents) (o .1 .body) (o .1 .map) (o .1 .verdicts)
+abbrev pub leftIn : Outcome → List ℕ → Lent
+leftIn o xs = lent (toldIn (o .0) (o .1 .st)) (keptIn (o .1 .st) xs) (o .1 .contents) (o .1 .body) (o .1 .map) (o .1 .verdicts)
 
 unfoldable pub chunkIn : List ℕ → List ℕ → List ℕ → List ℕ → List ℕ → List ℕ → Lent
 chunkIn chunk xs c b m v =
     pick (ltb (length xs) 8) (lent (untold 90) xs c b m v)
-    (outcomeIn (admitOf chunk (mach (admissionOf xs) c b m v)) xs)
+    (leftIn (admitOf chunk (mach (admissionOf xs) c b m v)) xs)

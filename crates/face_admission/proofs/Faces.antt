@@ -1,7 +1,7 @@
 -- What each call answers and leaves, from what the admission below it does.
 -- Assumes nothing.
 use Prim.Native.Nat.{ℕ, _≤_, _<_}
-use mathlib.Core.Path.{_≡_, ap, _∙_}
+use mathlib.Core.Path.{_≡_, ap}
 use mathlib.Core.List.{List}
 use lib.ListN.{length}
 use borrow.Author.Tests.{lt-ltb, le-ltb}
@@ -9,7 +9,7 @@ use Rattle.admission.specs.Numbers.{startOf}
 use Rattle.admission.specs.Admission.{mach, Outcome, admitOf, admittedAs, closeOf, askOf}
 use Rattle.admission.specs.declared.Admission.{Admission}
 use Rattle.admission.specs.declared.Admitted.{Admitted}
-use Rattle.answers.specs.Admissions.{admissionOf, keptIn, untold, toldIn, startIn, closeIn, askIn, lent, outcomeIn, chunkIn}
+use Rattle.answers.specs.Admissions.{admissionOf, keptIn, untold, toldIn, startIn, closeIn, askIn, lent, leftIn, chunkIn}
 use Rattle.answers.specs.declared.KhxAdmitted.{KhxAdmitted}
 
 -- fewer than eight numbers
@@ -50,4 +50,4 @@ module _ (xs : List ℕ) (all : 8 ≤ length xs) (r : KhxAdmitted) where
         → ys ≡ keptIn (a .admission) xs → r ≡ toldIn (a .refusal) (a .admission) → lent r ys c′ b′ m′ v′ ≡ chunkIn chunk xs c b m v
     unfolding chunkIn
     chunk-all chunk c b m v c′ b′ m′ v′ a ys e p q =
-        rw (le-ltb _ _ all, p, q, ← read) (ap (λ (o : Outcome). outcomeIn o xs) e)
+        rw (le-ltb _ _ all, p, q, ← read) (ap (λ (o : Outcome). leftIn o xs) e)

@@ -1,20 +1,18 @@
 -- What is promised of packs that are checked while they download, proved.
 -- Assumes nothing.
-use Prim.Native.Nat.{ℕ, _≤_, _<_}
+use Prim.Native.Nat.{ℕ, _≤_}
 use native.Mathlib.Omega.{arith}
 use mathlib.Core.Path.{_≡_, refl, sym, ap, _∙_, subst}
 use mathlib.Core.Logic.{_⊎_, inl, inr, ⊎-elim}
-use mathlib.Core.Bool.{Bool, true, false}
+use mathlib.Core.Bool.{false}
 use mathlib.Core.List.{List}
-use lib.ListN.{length}
 use borrow.Author.Tests.{eq-eqb}
-use Rattle.basis.specs.Answer.{given, refused}
-use Rattle.basis.proofs.Tests.{test, same?, refused-one}
+use Rattle.basis.specs.Answer.{refused}
+use Rattle.basis.proofs.Tests.{test, same?}
 use Rattle.pack.specs.Read.{readOf}
-use Rattle.rulings.specs.Rulings.{Ruling, rulingsOf}
 use Rattle.rulings.proofs.Answers.{rulings-refused}
 use Rattle.admission.specs.Numbers.{damagedOf, lostOf}
-use Rattle.admission.specs.Admission.{Mach, Outcome, shortOf, chunkOf, admitOf, answered, endedOf, closeOf, askOf}
+use Rattle.admission.specs.Admission.{Mach, Outcome, shortOf, chunkOf, admitOf, endedOf, closeOf, askOf}
 use Rattle.admission.specs.Fit.{Sound, Fit}
 use Rattle.admission.specs.declared.Admission.{Admission}
 use Rattle.admission.specs.declared.Admitted.{Admitted}
@@ -27,8 +25,8 @@ use Rattle.streams.proofs.Closing.{read-long, told-number, told-nonzero}
 use Rattle.streams.proofs.Ending.{Shut, ended-shut, ended-told, ended-packs, ended-lost, shut-close, shut-ask, shut-chunk}
 use Rattle.streams.proofs.Within.{within, chunk-within}
 use Rattle.streams.proofs.Alike.{chunk-alike, chunk-told}
-use Rattle.streams.proofs.Streams.{Open, come, admitted, closed, close-ends, final, told-right, judged-whole, whole-judged, lost-refused, long-lost, refused-lost}
-use Rattle.guarantee.specs.Downloads.{TakesAnyChunk, KeepsOnlyThese, KeepsNothingElse, ClosesAsWhole, JudgesAtLastByte, TellsRight, ProvisionalIsFinal, LongComesFirst, RefusedHasNone, shut, Late, LateIsRefused, AsksOpen, LostIsRefused, LostIsTold, Bounded, Chunk, short, damaged, late, taken, Close, broken, again, ended, Ask, torn, still, told, AnswersAny}
+use Rattle.streams.proofs.Streams.{Open, come, come-as-one, admitted, closed, holds, close-ends, final, told-right, judged-whole, whole-judged, lost-refused, long-lost, refused-lost}
+use Rattle.guarantee.specs.Downloads.{TakesAnyChunk, KeepsOnlyThese, HoldsOneBody, KeepsNothingElse, ClosesAsWhole, CutAnywhere, JudgesAtLastByte, TellsRight, ProvisionalIsFinal, LongComesFirst, RefusedHasNone, shut, Late, LateIsRefused, AsksOpen, LostIsRefused, LostIsTold, Bounded, Chunk, short, damaged, late, taken, Close, broken, again, ended, Ask, torn, still, told, AnswersAny}
 
 pub takes-any-chunk : TakesAnyChunk
 unfolding TakesAnyChunk
@@ -37,6 +35,14 @@ takes-any-chunk cs c m b = ap (λ (o : Outcome). o .0) (admitted (joined cs) c (
 pub closes-as-whole : ClosesAsWhole
 unfolding ClosesAsWhole
 closes-as-whole cs m b = closed (joined cs) (admitAll cs m) (come cs m b)
+
+pub cut-anywhere : CutAnywhere
+unfolding CutAnywhere
+cut-anywhere = come-as-one
+
+pub holds-one-body : HoldsOneBody
+unfolding HoldsOneBody
+holds-one-body cs m b = holds (joined cs) (admitAll cs m) (come cs m b)
 
 pub judges-at-last-byte : JudgesAtLastByte
 unfolding JudgesAtLastByte
@@ -88,11 +94,12 @@ module _ (s : List ℕ) (m : Mach) (o : Open s m) where
   kept : closeOf (m .st) .admission .refusal ≡ closeOf (m .st) .refusal
   kept = ap (λ (a : Admission). a .refusal) left ∙ ended-told (m .st) .0 ∙ ap (λ (a : Admitted). a .refusal) (sym (close-ends s m o))
 
-  none-left : (closeOf (m .st) .refusal ≡ 0 → ⊥) → closeOf (m .st) .admission .judged ≡ 0
+  pub none-left : (closeOf (m .st) .refusal ≡ 0 → ⊥) → closeOf (m .st) .admission .judged ≡ 0
   none-left n = ap (λ (a : Admission). a .judged) left ∙ ended-told (m .st) .1 (λ z. n (ap (λ (a : Admitted). a .refusal) (close-ends s m o) ∙ z))
 
   is-late : Late m
   is-late = record {
+    closed = is-shut .closed;
     chunk = λ c. shut-chunk c (shut m) fit-shut (is-shut .closed);
     close = shut-close (closeOf (m .st) .admission) is-shut;
     ask = shut-ask (closeOf (m .st) .admission) is-shut ∙ kept;
@@ -138,7 +145,11 @@ any-close st =
     (λ d. let s = whole-sound st d in
     ⊎-elim
     (λ e. let x = ended-shut st s in
-    ended (endedOf st) d e (rw (d, eq-eqb (st .closed) 0 e)) (ended-packs st s) (x .closed) (bounded (endedOf st .admission) (x .sound)))
+    let q : endedOf st ≡ closeOf st = rw (d, eq-eqb (st .closed) 0 e) in
+    ended d e
+    (subst (λ (a : Admitted). (a .refusal ≡ 0) ⊎ ((30 ≤ a .refusal) × (a .refusal ≤ 35))) q (ended-packs st s))
+    (subst (λ (a : Admitted). a .admission .closed ≡ 1) q (x .closed))
+    (subst (λ (a : Admitted). Bounded (a .admission)) q (bounded (endedOf st .admission) (x .sound))))
     (λ e. again d e (shut-close st (record { sound = s; closed = e })) (bounded st s))
     (open-or-shut st s))
     (test (damagedOf st))

@@ -6,7 +6,7 @@
 -- `m` is an admission with its lent memory, `Begun` says that it was begun and has enough of it, whatever it holds; `admitAll cs m` is it after the
 -- chunks `cs`, and `joined cs` are all their bytes. What a whole pack answers is `rulingsOf`: the refusal of its check, or for each program the tag and what
 -- the verifier says.
-use Prim.Native.Nat.{ℕ, _+_, _*_, _≤_, _<_}
+use Prim.Native.Nat.{ℕ, _+_, _≤_, _<_}
 use mathlib.Core.Path.{_≡_}
 use mathlib.Core.Logic.{_⊎_}
 use mathlib.Core.Bool.{true, false}
@@ -14,7 +14,7 @@ use mathlib.Core.List.{List, map, _++_}
 use mathlib.Core.Option.{some}
 use lib.ListN.{length, take, getElem?}
 use Rattle.basis.specs.Answer.{given, refused}
-use Rattle.pack.specs.Contents.{firstOf, entryAt}
+use Rattle.pack.specs.Contents.{firstOf}
 use Rattle.pack.specs.Read.{countOf, contentsOf, readOf}
 use Rattle.pack.specs.declared.Entry.{Entry}
 use Rattle.rulings.specs.Rulings.{judgedOf, rulingOf, rulingsOf}
@@ -22,8 +22,7 @@ use Rattle.admission.specs.Verdicts.{codesOf}
 use Rattle.admission.specs.Numbers.{damagedOf, lostOf}
 use Rattle.admission.specs.Admission.{Mach, mach, shortOf, chunkOf, admitOf, answered, closeOf, askOf}
 use Rattle.admission.specs.declared.Admission.{Admission}
-use Rattle.admission.specs.declared.Admitted.{Admitted}
-use Rattle.streams.specs.Told.{cellsOf, ruledAt, closedOf, Begun, Within, Alike, SameVerdicts, Whole, admitAll, joined}
+use Rattle.streams.specs.Told.{entryOf, cellsOf, ruledAt, closedOf, Begun, Within, Holds, Alike, SameVerdicts, Whole, admitAll, joined}
 
 -- "Admit a pack in chunks of any length, zero too": before the close every chunk is taken, whatever came before it.
 unfoldable pub TakesAnyChunk : Type 0
@@ -34,8 +33,12 @@ TakesAnyChunk = (cs : List (List ℕ)) (c : List ℕ) (m : Mach) → Begun m →
 unfoldable pub KeepsOnlyThese : Type 0
 KeepsOnlyThese = (c : List ℕ) (m : Mach) → Within m (admitOf c m .1)
 
--- and it keeps nothing else in it: what it does from now on, and the verdicts that it tells, depend on its numbers, the contents and the bytes of the one body
--- under way alone. Two admissions that agree in these agree after any chunk, whatever else their memory holds.
+-- Of the pack it holds there the contents and the one body that is under way, each as far as it has come; that body's last byte has not.
+unfoldable pub HoldsOneBody : Type 0
+HoldsOneBody = (cs : List (List ℕ)) (m : Mach) → Begun m → Holds (take 24576 (joined cs)) (admitAll cs m)
+
+-- And it keeps nothing else: what it does from now on depends on its numbers, the 514 bytes for the contents and the bytes of the one body under way alone. Two
+-- admissions that agree in these agree after any chunk, and if they told the same verdicts they tell the same, whatever else their memory holds.
 unfoldable pub KeepsNothingElse : Type 0
 KeepsNothingElse =
     (c : List ℕ) (m n : Mach) → shortOf (m .contents) (m .body) (m .map) (m .verdicts) ≡ false → shortOf (n .contents) (n .body) (n .map) (n .verdicts) ≡ false
@@ -46,6 +49,10 @@ KeepsNothingElse =
 -- "At the close, each program's verdict and the pack's own answer equal those of the whole pack, wherever it was cut."
 unfoldable pub ClosesAsWhole : Type 0
 ClosesAsWhole = (cs : List (List ℕ)) (m : Mach) → Begun m → closedOf (admitAll cs m) ≡ rulingsOf (joined cs)
+
+-- "wherever it was cut", before the close too: the numbers and all memory are as one chunk of all the bytes leaves them.
+unfoldable pub CutAnywhere : Type 0
+CutAnywhere = (cs : List (List ℕ)) (m : Mach) → Begun m → admitAll cs m ≡ admitOf (joined cs) m .1
 
 -- "want a verdict the moment the last byte comes": before the close a program has its verdict exactly from when it is whole, one of no bytes too; bytes past
 -- those that a pack can have make none.
@@ -58,7 +65,7 @@ JudgesAtLastByte =
 unfoldable pub TellsRight : Type 0
 TellsRight =
     (cs : List (List ℕ)) (m : Mach) → Begun m → (j : ℕ) → j < admitAll cs m .st .judged
-    → cellsOf (admitAll cs m .verdicts) j ≡ codesOf (entryAt (joined cs) (2 + 8 * j) .tag) (judgedOf (joined cs) (entryAt (joined cs) (2 + 8 * j)))
+    → cellsOf (admitAll cs m .verdicts) j ≡ codesOf (entryOf (joined cs) j .tag) (judgedOf (joined cs) (entryOf (joined cs) j))
 
 -- "Verdicts before the close are provisional": whatever bytes follow, where the pack is then admitted, each verdict that was there is its program's final one,
 -- in the same place.
@@ -83,6 +90,7 @@ shut m = mach (closeOf (m .st) .admission) (m .contents) (m .body) (m .map) (m .
 
 -- "37 a chunk or a second close after the close, which changes nothing": and the answer of the first close is told again.
 pub record Late (m : Mach) : Type 0 where
+  pub closed : shut m .st .closed ≡ 1
   pub chunk : (c : List ℕ) → admitOf c (shut m) ≡ (37, shut m)
   pub close : closeOf (shut m .st) ≡ answered 37 (shut m .st)
   pub ask : askOf (shut m .st) ≡ closeOf (m .st) .refusal
@@ -120,14 +128,15 @@ pub data Chunk (c : List ℕ) (m : Mach) : Type 0 where
   short : shortOf (m .contents) (m .body) (m .map) (m .verdicts) ≡ true → admitOf c m ≡ (90, m) → Chunk c m
   damaged : shortOf (m .contents) (m .body) (m .map) (m .verdicts) ≡ false → damagedOf (m .st) ≡ true → admitOf c m ≡ (91, m) → Chunk c m
   late : shortOf (m .contents) (m .body) (m .map) (m .verdicts) ≡ false → damagedOf (m .st) ≡ false → m .st .closed ≡ 1 → admitOf c m ≡ (37, m) → Bounded (m .st) → Chunk c m
-  taken : shortOf (m .contents) (m .body) (m .map) (m .verdicts) ≡ false → damagedOf (m .st) ≡ false → m .st .closed ≡ 0 → admitOf c m ≡ (0, chunkOf c m) → chunkOf c m .st .closed ≡ 0 → Bounded (chunkOf c m .st) → Chunk c m
+  taken : shortOf (m .contents) (m .body) (m .map) (m .verdicts) ≡ false → damagedOf (m .st) ≡ false → m .st .closed ≡ 0 → admitOf c m ≡ (0, chunkOf c m)
+      → chunkOf c m .st .closed ≡ 0 → Bounded (chunkOf c m .st) → Chunk c m
 
 -- and a close: 91 or 37 with nothing changed, or it closes, by one of the numbers of a pack, or by none
 pub data Close (st : Admission) : Type 0 where
   broken : damagedOf st ≡ true → closeOf st ≡ answered 91 st → Close st
   again : damagedOf st ≡ false → st .closed ≡ 1 → closeOf st ≡ answered 37 st → Bounded st → Close st
-  ended : (a : Admitted) → damagedOf st ≡ false → st .closed ≡ 0 → closeOf st ≡ a → (a .refusal ≡ 0) ⊎ ((30 ≤ a .refusal) × (a .refusal ≤ 35))
-      → a .admission .closed ≡ 1 → Bounded (a .admission) → Close st
+  ended : damagedOf st ≡ false → st .closed ≡ 0 → (closeOf st .refusal ≡ 0) ⊎ ((30 ≤ closeOf st .refusal) × (closeOf st .refusal ≤ 35))
+      → closeOf st .admission .closed ≡ 1 → Bounded (closeOf st .admission) → Close st
 
 -- and what is asked: 91, or none before the close and one of a pack's numbers, or none, after it
 pub data Ask (st : Admission) : Type 0 where

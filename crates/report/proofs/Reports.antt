@@ -4,7 +4,7 @@ use Prim.Native.Nat.{ℕ, _+_, _≤_, _<_}
 use native.Mathlib.Omega.{arith}
 use mathlib.Core.Path.{_≡_, refl, sym, ap, _∙_, subst}
 use mathlib.Core.Option.{none, some}
-use mathlib.Core.List.{List, [], _++_}
+use mathlib.Core.List.{List, [], _++_, map as each}
 use lib.ListN.{length, drop, getElem?}
 use Rattle.basis.specs.Answer.{Answer, given, refused, seen}
 use Rattle.basis.proofs.Tests.{refused-given, given-one}
@@ -15,14 +15,14 @@ use Rattle.pack.proofs.Sounds.{refused-seen}
 use Rattle.text.specs.Put.{Put}
 use Rattle.text.proofs.Puts.{put-none, put-append}
 use Rattle.verdicts.specs.Line.{lineOf, packLineOf}
-use Rattle.rulings.specs.Rulings.{judgedOf}
+use Rattle.rulings.specs.Rulings.{judgedOf, rulingOf, rulingsOf}
 use Rattle.rulings.proofs.Entries.{good-there}
 use Rattle.report.specs.Report.{linesOf, reportIn, reportOf, laidOver, allLaid, mapIn}
 use Rattle.report.proofs.Entries.{there, past}
 
 -- what is left of the lines, and of the map's changes, at the entry with an index
 abbrev pub linesFrom : List ℕ → ℕ → Answer (List Entry) → List ℕ
-linesFrom pack i (given es) = linesOf pack (drop i es)
+linesFrom pack i (given es) = linesOf (each (rulingOf pack) (drop i es))
 linesFrom pack i (refused n) = packLineOf n
 
 abbrev pub laidFrom : List ℕ → ℕ → Answer (List Entry) → List ℕ → List ℕ
@@ -36,7 +36,7 @@ pub record Left (pack : List ℕ) (i : ℕ) (room : List ℕ) (at : ℕ) (map ro
   pub laid : laidFrom pack i (readOf pack) map ≡ mapIn pack (readOf pack) map₀
   pub alone : (n : ℕ) → readOf pack ≡ refused n → at ≡ 0
 
-lines-whole : (pack : List ℕ) (a : Answer (List Entry)) → linesFrom pack 0 a ≡ reportIn pack a
+lines-whole : (pack : List ℕ) (a : Answer (List Entry)) → linesFrom pack 0 a ≡ reportIn (seen (each (rulingOf pack)) a)
 lines-whole pack (given es) = refl
 lines-whole pack (refused n) = refl
 
@@ -45,7 +45,7 @@ laid-whole pack map (given es) = refl
 laid-whole pack map (refused n) = refl
 
 pub left-start : (pack room map : List ℕ) → Left pack 0 room 0 map room map
-unfolding reportOf
+unfolding reportOf rulingsOf
 left-start pack room map = record {
   lines = λ after end p. subst (λ (xs : List ℕ). Put xs room 0 after end) (lines-whole pack (readOf pack)) p;
   laid = laid-whole pack map (readOf pack);

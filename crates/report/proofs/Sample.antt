@@ -15,7 +15,7 @@ use Rattle.pack.specs.Contents.{entryAt, refusalOf}
 use Rattle.pack.specs.Read.{entriesOf, contentsOf, readOf}
 use Rattle.text.specs.Text.{bytes, digitOf}
 use Rattle.verdicts.specs.Line.{decimalOf, refusedOf, saidOf, lineOf, packLineOf}
-use Rattle.rulings.specs.Rulings.{judgedOf}
+use Rattle.rulings.specs.Rulings.{judgedOf, rulingsOf}
 use Rattle.report.specs.Report.{reportOf}
 
 -- one rule with tag 7 and the program of M1
@@ -24,18 +24,18 @@ ruleOf cells = 0x01 ∷ 0x00 ∷ 0x07 ∷ 0x00 ∷ cells ∷ 0x00 ∷ 0x0A ∷ 0
 
 -- "The pack 01 00 07 00 02 00 0A 00 04 00 85 83 15 00 prints `0007 accepted`"
 pub sample-report : reportOf (ruleOf 2) ≡ bytes "0007 accepted\n"
-unfolding reportOf judgedOf lineOf saidOf digitOf readOf contentsOf entriesOf entryAt refusalOf verifyOf walk turns turn lowest meets meet lookOf depthAfter opOf opIn decodeOf headOf lengthOf formOf codeOf valueWidth ones
+unfolding reportOf rulingsOf judgedOf lineOf saidOf digitOf readOf contentsOf entriesOf entryAt refusalOf verifyOf walk turns turn lowest meets meet lookOf depthAfter opOf opIn decodeOf headOf lengthOf formOf codeOf valueWidth ones
 sample-report = refl
 
 -- M3
 pub refused-report : reportOf (ruleOf 1) ≡ bytes "0007 refused 5 at 0001\n"
-unfolding reportOf judgedOf lineOf saidOf refusedOf decimalOf digitOf readOf contentsOf entriesOf entryAt refusalOf verifyOf walk turns turn lowest meets meet lookOf depthAfter opOf opIn decodeOf headOf lengthOf formOf codeOf valueWidth ones
+unfolding reportOf rulingsOf judgedOf lineOf saidOf refusedOf decimalOf digitOf readOf contentsOf entriesOf entryAt refusalOf verifyOf walk turns turn lowest meets meet lookOf depthAfter opOf opIn decodeOf headOf lengthOf formOf codeOf valueWidth ones
 refused-report = refl
 
 pub empty-report : reportOf (0 ∷ 0 ∷ []) ≡ []
-unfolding reportOf readOf contentsOf entriesOf
+unfolding reportOf rulingsOf readOf contentsOf entriesOf
 empty-report = refl
 
 pub cut-report : reportOf [] ≡ bytes "pack refused 30\n"
-unfolding reportOf packLineOf refusedOf decimalOf digitOf readOf contentsOf
+unfolding reportOf rulingsOf packLineOf refusedOf decimalOf digitOf readOf contentsOf
 cut-report = refl

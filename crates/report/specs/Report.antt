@@ -9,23 +9,23 @@ use Rattle.basis.specs.Room.{fitted}
 use Rattle.pack.specs.Read.{readOf}
 use Rattle.pack.specs.Find.{bodyOf}
 use Rattle.pack.specs.declared.Entry.{Entry}
-use Rattle.rulings.specs.Rulings.{verifiedIn, judgedOf}
+use Rattle.rulings.specs.Rulings.{verifiedIn, Ruling, rulingsOf}
 use Rattle.verdicts.specs.Line.{lineOf, packLineOf}
 use Rattle.report.specs.declared.Reported.{Reported}
 use Rattle.report.specs.declared.Reported.the-variants.{Written, Refused}
 
 -- "`TTTT accepted` or `TTTT refused N at AAAA` for each entry"
-abbrev pub linesOf : List ℕ → List Entry → List ℕ
-linesOf pack [] = []
-linesOf pack (e ∷ es) = lineOf (e .tag) (judgedOf pack e) ++ linesOf pack es
+abbrev pub linesOf : List Ruling → List ℕ
+linesOf [] = []
+linesOf (r ∷ rs) = lineOf (r .0) (r .1) ++ linesOf rs
 
 -- "or only `pack refused N`"
-abbrev pub reportIn : List ℕ → Answer (List Entry) → List ℕ
-reportIn pack (given es) = linesOf pack es
-reportIn pack (refused n) = packLineOf n
+abbrev pub reportIn : Answer (List Ruling) → List ℕ
+reportIn (given rs) = linesOf rs
+reportIn (refused n) = packLineOf n
 
 unfoldable pub reportOf : List ℕ → List ℕ
-reportOf pack = reportIn pack (readOf pack)
+reportOf pack = reportIn (rulingsOf pack)
 
 -- the map after an entry: its first cells, as many as the program has bytes, are lent to the verifier
 unfoldable pub laidOver : List ℕ → Entry → List ℕ → List ℕ

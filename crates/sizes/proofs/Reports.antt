@@ -4,7 +4,7 @@ use Prim.Native.Nat.{ℕ, zero, suc, _+_, _*_, _≤_}
 use native.Mathlib.Omega.{arith}
 use mathlib.Core.Path.{_≡_, refl, ap, ap₂, _∙_}
 use mathlib.Core.Bool.{Bool, true, false}
-use mathlib.Core.List.{List, [], _∷_}
+use mathlib.Core.List.{List, [], _∷_, map}
 use lib.Count.{ones}
 use lib.Dec.{ltb}
 use lib.ListN.{length, replicate, length-append}
@@ -27,19 +27,19 @@ use Rattle.rules.specs.Rules.{Rule, Admissible, bodiesOf, contentsFor, packed, 
 use Rattle.rules.proofs.Kept.{Kept, nil, cons, kept-rising, kept-each, length-packed}
 use Rattle.rules.proofs.Forth.{packed-read, packed-rules}
 use Rattle.rules.proofs.Inside.{count-most}
-use Rattle.rulings.specs.Rulings.{judgedOf}
+use Rattle.rulings.specs.Rulings.{judgedOf, rulingOf, rulingsOf}
 use Rattle.report.specs.Report.{linesOf, reportIn, reportOf, writeOf}
 use Rattle.sizes.proofs.Rooms.{Writes, early, late}
 
-lines-most : (pack : List ℕ) (es : List Entry) → length (linesOf pack es) ≤ 24 * length es
+lines-most : (pack : List ℕ) (es : List Entry) → length (linesOf (map (rulingOf pack) es)) ≤ 24 * length es
 lines-most pack [] = omega arith
 lines-most pack (e ∷ es) = rw length-append (omega (arith, length-line (e .tag) (judgedOf pack e), lines-most pack es))
 
 report-most : (pack : List ℕ) → length (reportOf pack) ≤ 1536
-unfolding reportOf
+unfolding reportOf rulingsOf
 report-most pack = by (readOf pack) (λ n h. count-most pack n h)
   where
-    by : (a : Answer (List Entry)) → ((n : ℕ) → seen length a ≡ given n → n ≤ 64) → length (reportIn pack a) ≤ 1536
+    by : (a : Answer (List Entry)) → ((n : ℕ) → seen length a ≡ given n → n ≤ 64) → length (reportIn (seen (map (rulingOf pack)) a)) ≤ 1536
     by (given es) h = omega (arith, lines-most pack es, h (length es) refl)
     by (refused n) h = omega (arith, length-pack-line n)
 
@@ -95,7 +95,7 @@ line-long : (tag : ℕ) → length (lineOf tag (names 10 1)) ≡ 24
 unfolding lineOf saidOf refusedOf decimalOf
 line-long tag = refl
 
-tens-lines : (pack : List ℕ) (es : List Entry) (tag n : ℕ) → rulesOf pack es ≡ tens tag n → length (linesOf pack es) ≡ 24 * n
+tens-lines : (pack : List ℕ) (es : List Entry) (tag n : ℕ) → rulesOf pack es ≡ tens tag n → length (linesOf (map (rulingOf pack) es)) ≡ 24 * n
 tens-lines pack [] tag zero h = refl
 tens-lines pack [] tag (suc n) h = absurd (let z : _≡_ {A = ℕ} 0 1 = cc in omega arith)
 tens-lines pack (e ∷ es) tag zero h = absurd (let z : _≡_ {A = ℕ} 0 1 = cc in omega arith)
@@ -109,7 +109,7 @@ abbrev pub tensPack : List ℕ
 tensPack = packed (tens 0 64)
 
 pub tens-long : length (reportOf tensPack) ≡ 1536
-unfolding reportOf
+unfolding reportOf rulingsOf
 tens-long = rw (packed-read (tens 0 64) tens-packable) (tens-lines (packed (tens 0 64)) (contentsFor (tens 0 64)) 0 64 (packed-rules (tens 0 64) tens-packable))
 
 pub tens-written : writeOf tensPack 16384 1536 ≡ given (reportOf tensPack)

@@ -21,8 +21,8 @@ use Rattle.admission.specs.Numbers.{admits, withdraws, damagedOf}
 use Rattle.admission.specs.Admission.{Mach, answered, closingOf, endedOf, closeOf}
 use Rattle.admission.specs.declared.Admission.{Admission}
 use Rattle.admission.specs.declared.Admitted.{Admitted}
-use Rattle.streams.specs.Told.{ruledFrom, toldBy, closedOf}
-use Rattle.streams.specs.Stands.{entryOf, Cut, Bad, Done, Ready, Short, Part, cut, bad, good, Stands, over, some}
+use Rattle.streams.specs.Told.{entryOf, ruledFrom, toldBy, closedOf}
+use Rattle.streams.specs.Stands.{Cut, Bad, Done, Ready, Short, Part, cut, bad, good, Stands, over, some}
 use Rattle.streams.proofs.Judging.{next-is}
 
 -- what is told as refused was refused by that number

@@ -5,23 +5,23 @@ use native.Mathlib.Omega.{arith}
 use mathlib.Core.Path.{_≡_, refl, sym, ap, _∙_, subst}
 use mathlib.Core.Logic.{_⊎_, ⊎-elim}
 use mathlib.Core.List.{List, [], _∷_, _++_, append-nil}
-use lib.Dec.{ltb, eqb}
+use lib.Dec.{ltb}
 use lib.ListN.{length, take, drop, set, length-append, take-append-drop}
 use lib.Seq.{take-all, take-length, drop-length, append-snoc, take-append-le, drop-append-le, take-suc-set}
-use borrow.Author.Tests.{lt-ltb, le-ltb, eq-eqb, ne-eqb, ltb-true, ltb-false, eqb-false}
+use borrow.Author.Tests.{lt-ltb, le-ltb, eq-eqb, ne-eqb, ltb-true, ltb-false}
 use Rattle.basis.specs.Answer.{Answer, given, refused}
-use Rattle.basis.proofs.Tests.{same?, test, refused-given}
-use Rattle.pack.specs.Contents.{firstOf, entriesFrom, endOf, refusalOf}
+use Rattle.basis.proofs.Tests.{same?, test}
+use Rattle.pack.specs.Contents.{firstOf}
 use Rattle.pack.specs.Read.{countOf, contentsOf}
-use Rattle.pack.specs.declared.Entry.{Entry}
 use Rattle.pack.proofs.Sounds.{Whole, whole-walk}
 use Rattle.admission.specs.Numbers.{startOf, counts, wants, refuses, opens, judges}
 use Rattle.admission.specs.Fit.{Fit}
 use Rattle.admission.specs.Admission.{Mach, mach, countedAs, settled, sizedOf, onBodies, openedOf, byteOf, chunkOf}
 use Rattle.admission.specs.declared.Admission.{Admission}
-use Rattle.admission.proofs.Fits.{learnt-fit, grown-fit, byte-fit}
+use Rattle.admission.proofs.Fits.{contents-packs, learnt-fit, grown-fit, byte-fit}
 use Rattle.arrival.proofs.Bytes.{byte-over, byte-contents, byte-past, byte-body}
-use Rattle.streams.specs.Stands.{entryOf, wantOf, Done, Cut, Bad, Ready, Short, Part, cut, bad, good, Stands, over, some}
+use Rattle.streams.specs.Told.{entryOf}
+use Rattle.streams.specs.Stands.{wantOf, Done, Cut, Bad, Ready, Short, Part, cut, bad, good, Stands, over, some}
 use Rattle.rulings.proofs.Prefix.{count-prefix, contents-prefix, contents-many, entry-prefix, entries-prefix, judged-prefix, number-alike}
 use Rattle.settling.proofs.Settles.{settled-none}
 use Rattle.streams.proofs.Judging.{next-is, settled-good}
@@ -45,9 +45,9 @@ module _ (s : List ℕ) (x n : ℕ) (m : Mach) (r : Ready s n m) where
   whole-is : Whole s
   whole-is = let i = r .is in record { head = omega (arith, r .room); count = omega (arith, r .few); room = rw i (r .room) }
 
-  grows : (k have : ℕ) (body : List ℕ) → (m .st .judged < n → r .at + have ≡ length s + 1) → (m .st .judged < n → take have body ≡ drop (r .at) s') → (m .st .judged < n → have ≤ entryOf s (m .st .judged) .length)
+  grows : (k have : ℕ) (body : List ℕ) → (m .st .judged < n → r .at + have ≡ length s + 1) → (m .st .judged < n → take have body ≡ drop (r .at) s') → (m .st .judged < n → have ≤ entryOf s (m .st .judged) .length) → (n ≤ m .st .judged → have ≡ 0)
       → Ready s' n (mach (judges (m .st .judged) have (counts k (m .st))) (m .contents) body (m .map) (m .verdicts))
-  grows k have body p b w =
+  grows k have body p b w z =
       let l = length-append s (x ∷ []) in
       let g = r .room in
       let j = r .judged in
@@ -69,6 +69,7 @@ module _ (s : List ℕ) (x n : ℕ) (m : Mach) (r : Ready s n m) where
         place = λ h. p h ∙ sym l;
         body = b;
         within = λ h. rw (entry-prefix s (x ∷ []) (2 + 8 * m .st .judged) (omega arith)) (w h);
+        idle = z;
       }
 
   module _ (f : Fit m) (c : m .st .counted ≡ length s) (small : length s < 24576) (h : Short s n m) where
@@ -86,7 +87,7 @@ module _ (s : List ℕ) (x n : ℕ) (m : Mach) (r : Ready s n m) where
         let grown : take (m .st .have + 1) body' ≡ drop (r .at) s' =
         rw z (take-suc-set (m .body) (m .st .have) x (omega (arith, f .body)) ∙ ap (λ (y : List ℕ). y ++ (x ∷ [])) e ∙ sym (drop-append-le (r .at) s (x ∷ []) (r .reached))) in
         let m' = mach (judges (m .st .judged) (m .st .have + 1) (counts (m .st .counted + 1) (m .st))) (m .contents) body' (m .map) (m .verdicts) in
-        let y = grows (m .st .counted + 1) (m .st .have + 1) body' (λ v. omega arith) (λ v. grown) (λ v. omega arith) in
+        let y = grows (m .st .counted + 1) (m .st .have + 1) body' (λ v. omega arith) (λ v. grown) (λ v. omega arith) (λ v. absurd (omega arith)) in
         subst (Part s')
         (byte-body x m (omega arith) (omega (arith, r .room)) (omega arith) (settled m') b refl)
         (settled-good s' n m' (grown-fit x m f (let o = r .room in omega arith) (omega arith) b) y)
@@ -95,7 +96,7 @@ module _ (s : List ℕ) (x n : ℕ) (m : Mach) (r : Ready s n m) where
     good-past u =
         let w = r .want in
         let k = r .programs in
-        let y = grows (m .st .counted + 1) (m .st .have) (m .body) (λ v. absurd (omega arith)) (λ v. absurd (omega arith)) (λ v. absurd (omega arith)) in
+        let y = grows (m .st .counted + 1) (m .st .have) (m .body) (λ v. absurd (omega arith)) (λ v. absurd (omega arith)) (λ v. absurd (omega arith)) (r .idle) in
         subst (Part s')
         (byte-past x m (omega arith) (omega (arith, r .room)) (omega arith))
         (good n y (λ v. absurd (omega arith)))
@@ -115,22 +116,12 @@ bad-byte s x m c small b =
     (record {
       nonzero = b .nonzero;
       want = omega arith;
+      contents = b .contents ∙ sym (take-append-le (m .st .want) s (x ∷ []) w);
       programs = b .programs;
       judged = b .judged;
+      have = b .have;
       always = λ t. rw append-snoc (b .always (x ∷ t));
     }))
-
--- a refusal's number is not 0
-end-nonzero : (least at : ℕ) (es : List Entry) (k : ℕ) → endOf least at es ≡ refused k → k ≡ 0 → ⊥
-end-nonzero least at [] k e z = refused-given k at (sym e)
-end-nonzero least at (y ∷ es) k e z =
-    ⊎-elim
-    (λ t. end-nonzero (y .tag + 1) (at + y .length) es k (rw t at e) z)
-    (λ t. let q : refusalOf least at y ≡ k = same-number (refusalOf least at y) k (rw t at e) in eqb-false _ _ t (q ∙ z))
-    (test (eqb (refusalOf least at y) 0))
-  where
-    same-number : (a b : ℕ) → _≡_ {A = Answer ℕ} (refused a) (refused b) → a ≡ b
-    same-number a b h = cc
 
 -- the contents have grown by a byte, and their length is known as far as the bytes tell it
 module _ (s c : List ℕ) (st : Admission) (b mm v : List ℕ) (counted : st .counted ≡ length s) (want : st .want ≡ wantOf s) (upto : length s ≤ st .want)
@@ -197,6 +188,7 @@ module _ (s c : List ℕ) (st : Admission) (b mm v : List ℕ) (counted : st .co
           place = λ u. omega arith;
           body = λ u. rw (have, ← z) (sym (drop-length s));
           within = λ u. omega arith;
+          idle = λ u. have;
         }
 
     judge-contents : (a : Answer ℕ) → contentsOf s ≡ a → Part s (settled (mach (onBodies st c a) c b mm v))
@@ -205,10 +197,12 @@ module _ (s c : List ℕ) (st : Admission) (b mm v : List ℕ) (counted : st .co
         rw (settled-none (mach (refuses k st) c b mm v) programs)
         (bad
         (record {
-          nonzero = end-nonzero 0 (firstOf (countOf s)) (entriesFrom s 2 (countOf s)) k (sym (whole-walk s all) ∙ q);
+          nonzero = λ z. omega (arith, z, contents-packs s k q .0);
           want = omega arith;
+          contents = rw (← h) (alike ∙ sym (take-length s));
           programs = programs;
           judged = judged;
+          have = have;
           always = λ t. contents-prefix s t all ∙ q;
         }))
 
@@ -277,8 +271,10 @@ module _ (s : List ℕ) (x : ℕ) (m : Mach) (f : Fit m) (c : m .st .counted ≡
         (record {
           nonzero = λ z. let y : _≡_ {A = ℕ} 30 0 = z in omega arith;
           want = let l = at-two in omega arith;
+          contents = let z : m .st .want ≡ length t = w ∙ sym is-two ∙ stored in rw z (alike ∙ sym (take-length t));
           programs = k .programs;
           judged = k .judged;
+          have = k .have;
           always = λ u. contents-many t u at-two h;
         }))))
 
@@ -324,7 +320,7 @@ part-byte s x m f c l (good n r h) = good-byte s x n m r f c l h
 part-counted : (s : List ℕ) (m : Mach) (k : ℕ) → Part s m → Part s (countedAs k m)
 part-counted s m k (cut c) =
     cut (record { want = c .want; less = c .less; few = c .few; contents = c .contents; programs = c .programs; judged = c .judged; have = c .have; refusal = c .refusal })
-part-counted s m k (bad b) = bad (record { nonzero = b .nonzero; want = b .want; programs = b .programs; judged = b .judged; always = b .always })
+part-counted s m k (bad b) = bad (record { nonzero = b .nonzero; want = b .want; contents = b .contents; programs = b .programs; judged = b .judged; have = b .have; always = b .always })
 part-counted s m k (good n r h) =
     good n
     (record {
@@ -345,6 +341,7 @@ part-counted s m k (good n r h) =
       place = r .place;
       body = r .body;
       within = r .within;
+      idle = r .idle;
     })
     h
 

@@ -1,17 +1,17 @@
 -- After the close: numbers that are sound stay so, and every later call is 37.
 -- Assumes nothing.
-use Prim.Native.Nat.{ℕ, _≤_, _<_}
+use Prim.Native.Nat.{ℕ, _≤_}
 use native.Mathlib.Omega.{arith}
-use mathlib.Core.Path.{_≡_, refl, sym, ap, _∙_, subst}
+use mathlib.Core.Path.{_≡_, refl, sym}
 use mathlib.Core.Logic.{_⊎_, inl, inr, ⊎-elim}
 use mathlib.Core.Bool.{Bool, true, false}
 use mathlib.Core.List.{List}
 use lib.Dec.{ltb, eqb}
-use borrow.Author.Tests.{eqb-true, eqb-false, ne-eqb}
+use borrow.Author.Tests.{eqb-false, ne-eqb}
 use Rattle.basis.specs.Pick.{pick}
 use Rattle.basis.proofs.Tests.{pick-cases, test}
-use Rattle.admission.specs.Numbers.{admits, withdraws, damagedOf, lostOf}
-use Rattle.admission.specs.Admission.{Mach, Outcome, admitOf, answered, closingOf, endedOf, closeOf, askOf}
+use Rattle.admission.specs.Numbers.{admits, withdraws, lostOf}
+use Rattle.admission.specs.Admission.{Mach, admitOf, answered, closingOf, endedOf, closeOf, askOf}
 use Rattle.admission.specs.Fit.{Sound, Fit}
 use Rattle.admission.specs.declared.Admission.{Admission}
 use Rattle.admission.specs.declared.Admitted.{Admitted}

@@ -4,13 +4,11 @@ use Prim.Native.Nat.{ℕ, zero, suc, _+_, _-_, _*_, _%_, _≤_, _<_}
 use native.Mathlib.Omega.{arith}
 use mathlib.Core.Path.{_≡_, refl, sym, ap, _∙_, subst}
 use mathlib.Core.Logic.{_⊎_, ⊎-elim}
-use mathlib.Core.Bool.{Bool, true, false}
 use mathlib.Core.List.{List, [], _∷_}
-use lib.Dec.{ltb, eqb}
+use lib.Dec.{eqb}
 use lib.ListN.{length, getD, take, drop, set, replicate, length-drop, length-replicate, length-set}
 use lib.Seq.{drop-cons, length-sets, take-all, drop-length, length-take-le, sets, getD-set-same, getD-set-other}
 use borrow.Author.Tests.{eqb-true, eqb-false, ne-eqb}
-use Rattle.basis.specs.Pick.{pick}
 use Rattle.basis.specs.Number.{numberAt}
 use Rattle.basis.proofs.Tests.{pick-cases, same?}
 use Rattle.pack.specs.Contents.{firstOf, entryAt, entriesFrom}
@@ -18,7 +16,7 @@ use Rattle.pack.specs.Find.{bodyOf}
 use Rattle.pack.specs.declared.Entry.{Entry}
 use Rattle.pack.proofs.Walks.{from-more, Next, next}
 use Rattle.verifier.specs.Verify.{Judged, good, names, nameless, verifyOf}
-use Rattle.rulings.specs.Rulings.{Ruling, judgedOf}
+use Rattle.rulings.specs.Rulings.{judgedOf}
 use Rattle.rulings.proofs.Entries.{judged-same, length-body, small-walked}
 use Rattle.rulings.proofs.Numbers.{judged-low}
 use Rattle.rulings.proofs.Prefix.{number-alike}
@@ -26,8 +24,8 @@ use Rattle.admission.specs.Verdicts.{numberOf, placeOf, codesOf}
 use Rattle.admission.specs.Admission.{Mach, tagAt, cellsAt, lengthAt, verifiedOf, judgeOf, settleOf, settled}
 use Rattle.admission.specs.Fit.{Fit}
 use Rattle.admission.proofs.Fits.{judge-fit}
-use Rattle.streams.specs.Told.{judgedAs, ruledAt, cellsOf}
-use Rattle.streams.specs.Stands.{entryOf, Done, Ready, Part, good as whole-so-far}
+use Rattle.streams.specs.Told.{entryOf, judgedAs, ruledAt, cellsOf}
+use Rattle.streams.specs.Stands.{Done, Ready, Part, good as whole-so-far}
 
 -- two cells tell the answer of a program that the verifier walks
 told-back : (s : List ℕ) (e : Entry) → length (bodyOf s e) ≤ 16384 → e .cells ≤ 1024 → (j : Judged) → judgedOf s e ≡ j → judgedAs (numberOf j) (placeOf j) ≡ j
@@ -61,33 +59,29 @@ module _ (v : List ℕ) (i a b c : ℕ) where
       let z = at-other (3 * j + 2) (λ e. omega (arith, e)) (λ e. omega (arith, e)) (λ e. omega (arith, e)) in
       rw (x, y, z)
 
-  said-here : 3 * i + 3 ≤ length v → ruledAt after i ≡ (a, judgedAs b c)
-  said-here h =
-      let one : 3 * i + 1 ≡ suc (3 * i) = omega arith in
-      let two : 3 * i + 2 ≡ suc (suc (3 * i)) = omega arith in
-      let x : getD after (3 * i) 0 ≡ a =
-      getD-set-other (set (set v (3 * i) a) (suc (3 * i)) b) (suc (suc (3 * i))) (3 * i) c 0 (λ e. omega (arith, e))
-      ∙ getD-set-other (set v (3 * i) a) (suc (3 * i)) (3 * i) b 0 (λ e. omega (arith, e))
-      ∙ getD-set-same v (3 * i) a 0 (omega arith) in
-      let y : getD after (suc (3 * i)) 0 ≡ b =
-      getD-set-other (set (set v (3 * i) a) (suc (3 * i)) b) (suc (suc (3 * i))) (suc (3 * i)) c 0 (λ e. omega (arith, e))
-      ∙ getD-set-same (set v (3 * i) a) (suc (3 * i)) b 0 (rw length-set (omega arith)) in
-      let z : getD after (suc (suc (3 * i))) 0 ≡ c =
-      getD-set-same (set (set v (3 * i) a) (suc (3 * i)) b) (suc (suc (3 * i))) c 0 (rw length-set (rw length-set (omega arith))) in
-      rw (one, two, x, y, z)
+  module _ (h : 3 * i + 3 ≤ length v) where
+    first-is : getD after (3 * i) 0 ≡ a
+    first-is =
+        getD-set-other (set (set v (3 * i) a) (suc (3 * i)) b) (suc (suc (3 * i))) (3 * i) c 0 (λ e. omega (arith, e))
+        ∙ getD-set-other (set v (3 * i) a) (suc (3 * i)) (3 * i) b 0 (λ e. omega (arith, e))
+        ∙ getD-set-same v (3 * i) a 0 (omega arith)
 
-  coded-here : 3 * i + 3 ≤ length v → cellsOf after i ≡ a ∷ b ∷ c ∷ []
-  coded-here h =
-      let x : getD after (3 * i) 0 ≡ a =
-      getD-set-other (set (set v (3 * i) a) (suc (3 * i)) b) (suc (suc (3 * i))) (3 * i) c 0 (λ e. omega (arith, e))
-      ∙ getD-set-other (set v (3 * i) a) (suc (3 * i)) (3 * i) b 0 (λ e. omega (arith, e))
-      ∙ getD-set-same v (3 * i) a 0 (omega arith) in
-      let y : getD after (suc (3 * i)) 0 ≡ b =
-      getD-set-other (set (set v (3 * i) a) (suc (3 * i)) b) (suc (suc (3 * i))) (suc (3 * i)) c 0 (λ e. omega (arith, e))
-      ∙ getD-set-same (set v (3 * i) a) (suc (3 * i)) b 0 (rw length-set (omega arith)) in
-      let z : getD after (suc (suc (3 * i))) 0 ≡ c =
-      getD-set-same (set (set v (3 * i) a) (suc (3 * i)) b) (suc (suc (3 * i))) c 0 (rw length-set (rw length-set (omega arith))) in
-      three after (3 * i) (rw length-sets h) ∙ rw (x, y, z)
+    second-is : getD after (suc (3 * i)) 0 ≡ b
+    second-is =
+        getD-set-other (set (set v (3 * i) a) (suc (3 * i)) b) (suc (suc (3 * i))) (suc (3 * i)) c 0 (λ e. omega (arith, e))
+        ∙ getD-set-same (set v (3 * i) a) (suc (3 * i)) b 0 (rw length-set (omega arith))
+
+    third-is : getD after (suc (suc (3 * i))) 0 ≡ c
+    third-is = getD-set-same (set (set v (3 * i) a) (suc (3 * i)) b) (suc (suc (3 * i))) c 0 (rw length-set (rw length-set (omega arith)))
+
+    said-here : ruledAt after i ≡ (a, judgedAs b c)
+    said-here =
+        let one : 3 * i + 1 ≡ suc (3 * i) = omega arith in
+        let two : 3 * i + 2 ≡ suc (suc (3 * i)) = omega arith in
+        rw (one, two, first-is, second-is, third-is)
+
+    coded-here : cellsOf after i ≡ a ∷ b ∷ c ∷ []
+    coded-here = three after (3 * i) (rw length-sets h) ∙ rw (first-is, second-is, third-is)
 
   coded-other : (j : ℕ) → j < i → 3 * j + 3 ≤ length v → cellsOf after j ≡ cellsOf v j
   coded-other j h l =
@@ -182,6 +176,7 @@ module _ (s : List ℕ) (n : ℕ) (m : Mach) (r : Ready s n m) (some : m .st .ju
           place = λ h. omega arith;
           body = λ h. rw q (sym (drop-length s));
           within = λ h. omega arith;
+          idle = λ h. refl;
         }
       where
         old : (j : ℕ) → j < i → Done s (sets (m .verdicts) (3 * i) (codesOf (tagAt (m .contents) i) (verifiedOf m .0))) j

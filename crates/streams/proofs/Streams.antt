@@ -8,7 +8,7 @@ use mathlib.Core.List.{List, [], _∷_, _++_, map, append-nil, append-assoc}
 use mathlib.Core.Option.{some as some?, Option·none-ne-some, Option·some-injective}
 use lib.Dec.{ltb}
 use lib.ListN.{length, take, drop, getElem?, length-append, length-take, take-append-drop}
-use lib.Seq.{take-all}
+use lib.Seq.{take-all, length-take-le}
 use borrow.Author.Tests.{lt-ltb, le-ltb, ltb-true, ltb-false}
 use Rattle.basis.specs.Answer.{given, refused}
 use Rattle.basis.proofs.Tests.{test, same?, given-one, refused-given, refused-one}
@@ -17,17 +17,17 @@ use Rattle.pack.specs.Read.{countOf, contentsOf, entriesOf, readOf}
 use Rattle.pack.specs.declared.Entry.{Entry}
 use Rattle.pack.proofs.Walks.{from-there, next}
 use Rattle.pack.proofs.Sounds.{Sound, read-sound, sound-read}
-use Rattle.rulings.specs.Rulings.{Ruling, rulingOf, rulingsOf}
+use Rattle.rulings.specs.Rulings.{rulingOf, rulingsOf}
 use Rattle.rulings.proofs.Prefix.{count-prefix}
-use Rattle.admission.specs.Numbers.{startOf, lostOf}
-use Rattle.admission.specs.Admission.{Mach, Outcome, chunkOf, admitOf, endedOf, closeOf, askOf}
+use Rattle.admission.specs.Numbers.{lostOf}
+use Rattle.admission.specs.Admission.{Mach, Outcome, chunkOf, admitOf, endedOf, closeOf}
 use Rattle.admission.specs.Fit.{Fit}
 use Rattle.admission.specs.declared.Admission.{Admission}
 use Rattle.admission.proofs.Tests.{start-sound, sound-whole, fit-roomy}
 use Rattle.admission.proofs.Fits.{chunk-fit}
-use Rattle.intake.proofs.Chunks.{chunk-taken}
-use Rattle.streams.specs.Told.{ruledAt, closedOf, Begun, Whole, admitAll, joined}
-use Rattle.streams.specs.Stands.{entryOf, Done, Ready, Short, Part, cut, bad, good, Stands, over, some}
+use Rattle.intake.proofs.Chunks.{chunk-append, chunk-taken}
+use Rattle.streams.specs.Told.{entryOf, ruledAt, closedOf, Begun, Whole, Holds, admitAll, joined}
+use Rattle.streams.specs.Stands.{Done, Ready, Short, Part, cut, bad, good, Stands, over, some}
 use Rattle.streams.proofs.Kept.{chunk-live}
 use Rattle.streams.proofs.Coming.{done-prefix, stands-chunk, stands-start}
 use Rattle.streams.proofs.Judging.{next-is}
@@ -65,6 +65,16 @@ all-admitted (c ∷ cs) s m o =
 pub come : (cs : List (List ℕ)) (m : Mach) → Begun m → Open (joined cs) (admitAll cs m)
 come cs m b = all-admitted cs [] m (begun m b)
 
+-- and as one
+one-chunk : (cs : List (List ℕ)) (s : List ℕ) (m : Mach) → Open s m → admitAll cs m ≡ chunkOf (joined cs) m
+one-chunk [] s m o = refl
+one-chunk (c ∷ cs) s m o =
+    let a = admitted s c m o in
+    one-chunk cs (s ++ c) (admitOf c m .1) (a .1) ∙ ap (λ (x : Outcome). chunkOf (joined cs) (x .1)) (a .0) ∙ sym (chunk-append c (joined cs) m)
+
+pub come-as-one : (cs : List (List ℕ)) (m : Mach) → Begun m → admitAll cs m ≡ admitOf (joined cs) m .1
+come-as-one cs m b = let o = begun m b in one-chunk cs [] m o ∙ ap (λ (x : Outcome). x .1) (sym (admitted [] (joined cs) m o .0))
+
 -- the close answers what the whole pack answers
 pub closed : (s : List ℕ) (m : Mach) → Open s m → closedOf m ≡ rulingsOf s
 closed s m o = stands-close s m (sound-whole (m .st) (o .fit .sound)) (o .live) (o .stands)
@@ -81,6 +91,37 @@ mapped f (y ∷ xs) (suc j) x h = mapped f xs j x h
 left-by : (s : List ℕ) (m : Mach) → Stands s m → Part (take 24576 s) m
 left-by s m (over l c p) = p
 left-by s m (some l c p) = rw (take-all 24576 s l) p
+
+-- and what it holds of them: the contents, and the body under way
+holds-part : (s : List ℕ) (m : Mach) → Part s m → Holds s m
+holds-part s m (cut k) =
+    let z = k .programs in
+    record {
+      contents = rw (take-all (m .st .want) s (let l = k .less in omega arith)) (k .contents);
+      body = λ h. absurd (omega arith);
+      short = λ h. absurd (omega arith);
+      none = λ h. k .have;
+    }
+holds-part s m (bad b) =
+    let z = b .programs in
+    record {
+      contents = rw (length-take-le (m .st .want) s (b .want)) (b .contents);
+      body = λ h. absurd (omega arith);
+      short = λ h. absurd (omega arith);
+      none = λ h. b .have;
+    }
+holds-part s m (good n r q) =
+    let p = r .programs in
+    let w = r .want in
+    record {
+      contents = rw (length-take-le (m .st .want) s (let l = r .room in omega arith)) (rw w (r .contents));
+      body = λ h. let u : m .st .judged < n = omega arith in rw (next-is s n m r u .passed .offset) (r .body u);
+      short = λ h. q (omega arith);
+      none = λ h. r .idle (omega arith);
+    }
+
+pub holds : (s : List ℕ) (m : Mach) → Open s m → Holds (take 24576 s) m
+holds s m o = holds-part (take 24576 s) m (left-by s m (o .stands))
 
 -- A verdict that is told is the one that the bytes so far give its program, however many they are.
 done-part : (s : List ℕ) (m : Mach) (j : ℕ) → j < m .st .judged → Part s m → Done s (m .verdicts) j × (10 + 8 * j ≤ length s)

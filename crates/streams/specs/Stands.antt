@@ -6,16 +6,12 @@ use lib.ListN.{length, take, drop}
 use lib.Dec.{ltb}
 use Rattle.basis.specs.Pick.{pick}
 use Rattle.basis.specs.Answer.{given, refused}
-use Rattle.pack.specs.Contents.{firstOf, entryAt, entriesFrom, endOf}
+use Rattle.pack.specs.Contents.{firstOf, entriesFrom, endOf}
 use Rattle.pack.specs.Read.{countOf, contentsOf}
-use Rattle.pack.specs.declared.Entry.{Entry}
 use Rattle.admission.specs.Admission.{Mach}
 use Rattle.rulings.specs.Rulings.{judgedOf, rulingOf}
 use Rattle.admission.specs.Verdicts.{codesOf}
-use Rattle.streams.specs.Told.{ruledAt, cellsOf}
-
-abbrev pub entryOf : List ℕ → ℕ → Entry
-entryOf s i = entryAt s (2 + 8 * i)
+use Rattle.streams.specs.Told.{entryOf, ruledAt, cellsOf}
 
 -- the length of the contents, as far as the bytes tell it
 abbrev pub wantOf : List ℕ → ℕ
@@ -36,8 +32,10 @@ pub record Cut (s : List ℕ) (m : Mach) : Type 0 where
 pub record Bad (s : List ℕ) (m : Mach) : Type 0 where
   pub nonzero : m .st .refusal ≡ 0 → ⊥
   pub want : m .st .want ≤ length s
+  pub contents : take (m .st .want) (m .contents) ≡ take (m .st .want) s
   pub programs : m .st .programs ≡ 0
   pub judged : m .st .judged ≡ 0
+  pub have : m .st .have ≡ 0
   pub always : (t : List ℕ) → contentsOf (s ++ t) ≡ refused (m .st .refusal)
 
 -- the program at an index has its verdict
@@ -65,6 +63,7 @@ pub record Ready (s : List ℕ) (n : ℕ) (m : Mach) : Type 0 where
   pub place : m .st .judged < n → at + m .st .have ≡ length s
   pub body : m .st .judged < n → take (m .st .have) (m .body) ≡ drop at s
   pub within : m .st .judged < n → m .st .have ≤ entryOf s (m .st .judged) .length
+  pub idle : n ≤ m .st .judged → m .st .have ≡ 0
 
 -- and it has not come whole
 abbrev pub Short : List ℕ → ℕ → Mach → Type 0

@@ -8,11 +8,16 @@ use Rattle.basis.specs.Pick.{pick}
 use Rattle.basis.specs.Answer.{Answer, given, refused}
 use Rattle.pack.specs.Contents.{entryAt}
 use Rattle.pack.specs.Read.{countOf, contentsOf}
+use Rattle.pack.specs.declared.Entry.{Entry}
 use Rattle.verifier.specs.Verify.{Judged, good, names}
 use Rattle.rulings.specs.Rulings.{Ruling}
 use Rattle.admission.specs.Numbers.{startOf}
 use Rattle.admission.specs.Admission.{Mach, admitOf, closeOf}
 use Rattle.admission.specs.declared.Admitted.{Admitted}
+
+-- the entry at an index
+abbrev pub entryOf : List ℕ → ℕ → Entry
+entryOf s i = entryAt s (2 + 8 * i)
 
 -- the verifier's answer as two cells have it: the number 0 accepts
 abbrev pub judgedAs : ℕ → ℕ → Judged
@@ -62,7 +67,7 @@ pub record Whole (s : List ℕ) (j : ℕ) : Type 0 where
   pub end : ℕ
   pub good : contentsOf s ≡ given end
   pub few : j < countOf s
-  pub fits : entryAt s (2 + 8 * j) .offset + entryAt s (2 + 8 * j) .length ≤ length s
+  pub fits : entryOf s j .offset + entryOf s j .length ≤ length s
 
 -- chunks one after the other, and all their bytes
 abbrev pub admitAll : List (List ℕ) → Mach → Mach
@@ -73,8 +78,15 @@ abbrev pub joined : List (List ℕ) → List ℕ
 joined [] = []
 joined (c ∷ cs) = c ++ joined cs
 
--- "keeping only the contents and one body at a time": two admissions that keep the same, which is the numbers, the contents, and the bytes of the one
--- body under way
+-- "keeping only the contents and one body at a time": what is held of the bytes s. Of the contents what has come of them; of the body under way, the one
+-- behind those that have their verdict, what has come of it, and its last byte has not; of no body where none is under way.
+pub record Holds (s : List ℕ) (m : Mach) : Type 0 where
+  pub contents : take (length (take (m .st .want) s)) (m .contents) ≡ take (m .st .want) s
+  pub body : m .st .judged < m .st .programs → take (m .st .have) (m .body) ≡ drop (entryOf s (m .st .judged) .offset) s
+  pub short : m .st .judged < m .st .programs → m .st .have < entryOf s (m .st .judged) .length
+  pub none : m .st .programs ≤ m .st .judged → m .st .have ≡ 0
+
+-- two admissions that hold the same: the numbers, the 514 bytes for the contents, and the bytes of the one body under way
 pub record Alike (m n : Mach) : Type 0 where
   pub st : m .st ≡ n .st
   pub contents : take 514 (m .contents) ≡ take 514 (n .contents)

@@ -3,6 +3,7 @@ use Prim.Native.Nat.{ℕ}
 use mathlib.Core.Path.{_≡_}
 use mathlib.Core.List.{List, [], _∷_}
 use mathlib.Core.Option.{none, some}
+use lib.ListN.{drop, replicate}
 use Rattle.basis.specs.Answer.{given, refused}
 use Rattle.decoder.specs.Decode.{decodeOf}
 use Rattle.shapes.specs.Shapes.{shapeOf}
@@ -17,11 +18,13 @@ use Rattle.answers.specs.declared.KhxInstruction.{KhxInstruction}
 use Rattle.answers.specs.declared.KhxDecoded.{KhxDecoded}
 use Rattle.answers.specs.declared.KhxRow.{KhxRow}
 use Rattle.answers.specs.declared.KhxEntry.{KhxEntry}
+use Rattle.answers.specs.declared.KhxAdmitted.{KhxAdmitted}
 use Rattle.answers.specs.Runs.{stateOf, ranIn}
 use Rattle.answers.specs.Verdicts.{verifiedIn}
 use Rattle.answers.specs.Instructions.{decodedIn, rowIn}
 use Rattle.answers.specs.Written.{writtenIn}
 use Rattle.answers.specs.Packs.{checkedIn, foundIn, listedIn}
+use Rattle.answers.specs.Admissions.{startIn, closeIn, askIn, chunkIn, lent}
 
 -- khx_state: address, depth, status, fault
 abbrev pub state : ℕ → ℕ → ℕ → ℕ → KhxState
@@ -86,5 +89,34 @@ Answers =
     × (listedIn (given none) ≡ entry 0 0 0 0 0 0)
     × (listedIn (refused 34) ≡ entry 34 0 0 0 0 0)
 
+-- khx_admitted: refusal, closed, verdicts, lost
+abbrev pub admitted : ℕ → ℕ → ℕ → ℕ → KhxAdmitted
+admitted refusal closed verdicts lost = record { refusal = refusal; closed = closed; verdicts = verdicts; lost = lost }
+
+-- the numbers after khx_admit_start, and after khx_admit_close of no bytes, which are no contents
+abbrev pub begun : List ℕ
+begun = startIn (replicate 9 7) .1
+
+abbrev pub ended : List ℕ
+ended = closeIn begun .1
+
+abbrev pub Admissions : Type 0
+Admissions =
+    -- "Begins an admission: writes the eight numbers, and touches nothing else. Refusal: 90"
+    (startIn (replicate 9 7) .0 ≡ admitted 0 0 0 0)
+    × (drop 8 begun ≡ 7 ∷ [])
+    × (startIn (replicate 7 7) ≡ (admitted 90 0 0 0, replicate 7 7))
+    -- "How an admission stands; nothing is written. Refusals: 90, 91, then after the close the first close's; before it none"
+    × (askIn begun ≡ admitted 0 0 0 0)
+    × (askIn ended ≡ admitted 30 1 0 30)
+    × (askIn (replicate 7 7) ≡ admitted 90 0 0 0)
+    × (askIn (replicate 8 0) ≡ admitted 91 0 0 0)
+    -- "Refusals: 90, 91, 37, which change nothing: the first close's answer stays; then the pack's own"
+    × (closeIn begun .0 ≡ admitted 30 1 0 30)
+    × (closeIn ended ≡ (admitted 37 1 0 30, ended))
+    × (closeIn (replicate 8 0) ≡ (admitted 91 0 0 0, replicate 8 0))
+    -- "by 90 and 91 all else is 0": 90 comes first
+    × (chunkIn (0 ∷ []) ended [] [] [] [] ≡ lent (admitted 90 0 0 0) ended [] [] [] [])
+
 abbrev pub Numbers : Type 0
-Numbers = States × Verdicts × Answers
+Numbers = States × Verdicts × Answers × Admissions

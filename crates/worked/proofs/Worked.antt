@@ -87,6 +87,7 @@ pub downloads-hold : Downloads
 unfolding rulingsOf judgedOf toldBy closeOf endedOf closingOf askOf damagedOf wildOf tornOf lostOf byteOf contentsByte bodyByte sizedOf openedOf settled judgeOf readOf contentsOf entriesOf entryAt refusalOf verifyOf walk turns turn lowest meets meet lookOf depthAfter opOf opIn decodeOf headOf lengthOf formOf codeOf valueWidth ones
 downloads-hold = (
   ((refl, refl), (refl, refl), (refl, refl), (refl, refl), (refl, refl), (refl, refl), (refl, refl), (refl, refl), (refl, refl), (refl, refl), (refl, refl), (refl, refl), (refl, refl), (refl, refl), (refl, refl), (refl, refl), (refl, refl)),
+  (refl, refl, refl, refl),
   ((refl, refl), (refl, refl), (refl, refl), (refl, refl), (refl, refl), (refl, refl), (refl, refl), (refl, refl), (refl, refl), refl, refl, refl),
 )
 

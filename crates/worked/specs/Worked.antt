@@ -8,7 +8,7 @@ use Rattle.worked.specs.Walk.{mapped, walked, followed}
 use Rattle.worked.specs.Instructions.{read, Written}
 use Rattle.worked.specs.States.{Resumed, Refused}
 use Rattle.worked.specs.Packs.{ReadPacks, LookedUp, WrittenPacks}
-use Rattle.worked.specs.Downloads.{Closed, Open}
+use Rattle.worked.specs.Downloads.{Closed, Cells, Open}
 
 -- the operations of 01 by families
 abbrev pub Operations : Type 0
@@ -38,7 +38,7 @@ Packs = ReadPacks × LookedUp × WrittenPacks
 
 -- packs that come byte by byte
 abbrev pub Downloads : Type 0
-Downloads = Closed × Open
+Downloads = Closed × Cells × Open
 
 abbrev pub Worked : Type 0
 Worked = Operations × Faults × Walks × Values × States × Packs × Downloads
