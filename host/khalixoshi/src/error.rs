@@ -159,7 +159,7 @@ mod tests {
 
     #[test]
     fn numbers_go_back_and_forth() {
-        assert_eq!(known().len(), 27);
+        assert_eq!(known().len(), 28);
         for number in 0..100 {
             assert_eq!(Error::from_number(number).number(), number);
         }
