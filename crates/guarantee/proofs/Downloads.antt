@@ -16,7 +16,7 @@ use Rattle.admission.specs.Admission.{Mach, Outcome, shortOf, chunkOf, admitOf,
 use Rattle.admission.specs.Fit.{Sound, Fit}
 use Rattle.admission.specs.declared.Admission.{Admission}
 use Rattle.admission.specs.declared.Admitted.{Admitted}
-use Rattle.admission.proofs.Tests.{whole-sound, sound-whole, tests-fit}
+use Rattle.admission.proofs.Tests.{whole-sound, sound-whole, tests-fit, fit-roomy}
 use Rattle.admission.proofs.Fits.{chunk-fit}
 use Rattle.intake.proofs.Chunks.{chunk-short, chunk-damaged, chunk-late, chunk-taken}
 use Rattle.streams.specs.Told.{Begun, Within, Alike, SameVerdicts, admitAll, joined}
@@ -183,34 +183,28 @@ keeps-only-these c m = by (any-chunk c m)
     by (late h d z e b) = same 37 e
     by (taken h d z e l b) = subst (λ (o : Outcome). Within m (o .1)) (sym e) (chunk-within c m (tests-fit m h d))
 
--- two that keep the same
+-- two that hold the same
 pub keeps-nothing-else : KeepsNothingElse
 unfolding KeepsNothingElse
-keeps-nothing-else c m n h g d a = ⊎-elim live shut-both (open-or-shut (m .st) (whole-sound (m .st) d))
+keeps-nothing-else cs c m n b g a =
+    subst (λ (x : Outcome). Goes x (admitOf c n)) (chunk-taken c k (fit-roomy k (o .fit)) d (o .live) (chunkOf c k) refl)
+    (subst (Goes (0, chunkOf c k)) (chunk-taken c n g e (subst (λ (st : Admission). st .closed ≡ 0) (a .st) (o .live)) (chunkOf c n) refl)
+    (refl, chunk-alike c (joined cs) k n (o .fit) f (o .stands) a, chunk-told c (joined cs) k n (o .fit) f (o .stands) a))
   where
+    k : Mach
+    k = admitAll cs m
+
+    o : Open (joined cs) k
+    o = come cs m b
+
+    d : damagedOf (k .st) ≡ false
+    d = sound-whole (k .st) (o .fit .sound)
+
     e : damagedOf (n .st) ≡ false
     e = subst (λ (st : Admission). damagedOf st ≡ false) (a .st) d
 
-    f : Fit m
-    f = tests-fit m h d
-
-    k : Fit n
-    k = tests-fit n g e
+    f : Fit n
+    f = tests-fit n g e
 
     Goes : Outcome → Outcome → Type 0
-    Goes x y = (x .0 ≡ y .0) × Alike (x .1) (y .1) × (SameVerdicts (m .st .judged) (m .verdicts) (n .verdicts) → SameVerdicts (x .1 .st .judged) (x .1 .verdicts) (y .1 .verdicts))
-
-    both : (x y : Outcome) → x ≡ admitOf c m → y ≡ admitOf c n → Goes x y → Goes (admitOf c m) (admitOf c n)
-    both x y p q r = subst (λ (z : Outcome). Goes z (admitOf c n)) p (subst (Goes x) q r)
-
-    live : m .st .closed ≡ 0 → Goes (admitOf c m) (admitOf c n)
-    live z =
-        both (0, chunkOf c m) (0, chunkOf c n) (chunk-taken c m h d z (chunkOf c m) refl)
-        (chunk-taken c n g e (subst (λ (st : Admission). st .closed ≡ 0) (a .st) z) (chunkOf c n) refl)
-        (refl, chunk-alike c m n f k a, chunk-told c m n f k a)
-
-    shut-both : m .st .closed ≡ 1 → Goes (admitOf c m) (admitOf c n)
-    shut-both z =
-        both (37, m) (37, n) (chunk-late c m h d (λ u. omega (arith, u, z)))
-        (chunk-late c n g e (λ u. let v : n .st .closed ≡ 1 = subst (λ (st : Admission). st .closed ≡ 1) (a .st) z in omega (arith, u, v)))
-        (refl, a, λ t. t)
+    Goes x y = (x .0 ≡ y .0) × Alike (x .1) (y .1) × (SameVerdicts (k .st .judged) (k .verdicts) (n .verdicts) → SameVerdicts (x .1 .st .judged) (x .1 .verdicts) (y .1 .verdicts))

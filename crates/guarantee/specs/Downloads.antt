@@ -37,14 +37,14 @@ KeepsOnlyThese = (c : List ℕ) (m : Mach) → Within m (admitOf c m .1)
 unfoldable pub HoldsOneBody : Type 0
 HoldsOneBody = (cs : List (List ℕ)) (m : Mach) → Begun m → Holds (take 24576 (joined cs)) (admitAll cs m)
 
--- And it keeps nothing else: what it does from now on depends on its numbers, the 514 bytes for the contents and the bytes of the one body under way alone. Two
--- admissions that agree in these agree after any chunk, and if they told the same verdicts they tell the same, whatever else their memory holds.
+-- And it keeps nothing else: what it does from now on depends on its numbers and on what has come of the contents and of the one body under way. Whatever else the
+-- memory of another admission holds, if it holds these it answers any chunk alike, holds the same after it, and tells the same verdicts if it told the same.
 unfoldable pub KeepsNothingElse : Type 0
 KeepsNothingElse =
-    (c : List ℕ) (m n : Mach) → shortOf (m .contents) (m .body) (m .map) (m .verdicts) ≡ false → shortOf (n .contents) (n .body) (n .map) (n .verdicts) ≡ false
-    → damagedOf (m .st) ≡ false → Alike m n
-    → (admitOf c m .0 ≡ admitOf c n .0) × Alike (admitOf c m .1) (admitOf c n .1)
-    × (SameVerdicts (m .st .judged) (m .verdicts) (n .verdicts) → SameVerdicts (admitOf c m .1 .st .judged) (admitOf c m .1 .verdicts) (admitOf c n .1 .verdicts))
+    (cs : List (List ℕ)) (c : List ℕ) (m n : Mach) → Begun m → shortOf (n .contents) (n .body) (n .map) (n .verdicts) ≡ false → Alike (admitAll cs m) n
+    → (admitOf c (admitAll cs m) .0 ≡ admitOf c n .0) × Alike (admitOf c (admitAll cs m) .1) (admitOf c n .1)
+    × (SameVerdicts (admitAll cs m .st .judged) (admitAll cs m .verdicts) (n .verdicts)
+    → SameVerdicts (admitOf c (admitAll cs m) .1 .st .judged) (admitOf c (admitAll cs m) .1 .verdicts) (admitOf c n .1 .verdicts))
 
 -- "At the close, each program's verdict and the pack's own answer equal those of the whole pack, wherever it was cut."
 unfoldable pub ClosesAsWhole : Type 0

@@ -42,24 +42,42 @@ settled-same : (m : Mach) → Same (m .st) (settled m .st)
 unfolding settled
 settled-same m = settle-same (m .st .programs - m .st .judged) m
 
+-- what the contents teach changes neither this, nor how many have their verdict, nor how many bytes of the next body have come
+pub record Learnt (a b : Admission) : Type 0 where
+  pub counted : b .counted ≡ a .counted
+  pub closed : b .closed ≡ a .closed
+  pub judged : b .judged ≡ a .judged
+  pub have : b .have ≡ a .have
+
+nothing-learnt : (a : Admission) → Learnt a a
+nothing-learnt a = record { counted = refl; closed = refl; judged = refl; have = refl }
+
 module _ (st : Admission) (c : List ℕ) where
-  sized-same : Same st (sizedOf st c)
+  pub sized-learnt : Learnt st (sizedOf st c)
   unfolding sizedOf
-  sized-same =
-      pick-cases (Same st) (eqb (st .counted) 2) (pick (ltb 64 (countOf c)) (refuses 30 st) (wants (firstOf (countOf c)) st)) st
-      (λ t. pick-cases (Same st) (ltb 64 (countOf c)) (refuses 30 st) (wants (firstOf (countOf c)) st) (λ u. record { counted = refl; closed = refl }) (λ u. record { counted = refl; closed = refl }))
-      (λ t. same st)
+  sized-learnt =
+      pick-cases (Learnt st) (eqb (st .counted) 2) (pick (ltb 64 (countOf c)) (refuses 30 st) (wants (firstOf (countOf c)) st)) st
+      (λ t. pick-cases (Learnt st) (ltb 64 (countOf c)) (refuses 30 st) (wants (firstOf (countOf c)) st)
+      (λ u. record { counted = refl; closed = refl; judged = refl; have = refl })
+      (λ u. record { counted = refl; closed = refl; judged = refl; have = refl }))
+      (λ t. nothing-learnt st)
 
-  bodies-same : (a : Answer ℕ) → Same st (onBodies st c a)
-  bodies-same (given e) = record { counted = refl; closed = refl }
-  bodies-same (refused n) = record { counted = refl; closed = refl }
+  bodies-learnt : (a : Answer ℕ) → Learnt st (onBodies st c a)
+  bodies-learnt (given e) = record { counted = refl; closed = refl; judged = refl; have = refl }
+  bodies-learnt (refused n) = record { counted = refl; closed = refl; judged = refl; have = refl }
 
-  opened-same : Same st (openedOf st c)
+  opened-learnt : Learnt st (openedOf st c)
   unfolding openedOf
-  opened-same =
-      pick-cases (Same st) (eqb (st .counted) (st .want)) (pick (eqb (st .refusal) 0) (onBodies st c (contentsOf c)) st) st
-      (λ t. pick-cases (Same st) (eqb (st .refusal) 0) (onBodies st c (contentsOf c)) st (λ u. bodies-same (contentsOf c)) (λ u. same st))
-      (λ t. same st)
+  opened-learnt =
+      pick-cases (Learnt st) (eqb (st .counted) (st .want)) (pick (eqb (st .refusal) 0) (onBodies st c (contentsOf c)) st) st
+      (λ t. pick-cases (Learnt st) (eqb (st .refusal) 0) (onBodies st c (contentsOf c)) st (λ u. bodies-learnt (contentsOf c)) (λ u. nothing-learnt st))
+      (λ t. nothing-learnt st)
+
+pub all-learnt : (st : Admission) (c : List ℕ) → Learnt st (openedOf (sizedOf st c) c)
+all-learnt st c =
+    let p = sized-learnt st c in
+    let q = opened-learnt (sizedOf st c) c in
+    record { counted = q .counted ∙ p .counted; closed = q .closed ∙ p .closed; judged = q .judged ∙ p .judged; have = q .have ∙ p .have }
 
 module _ (x : ℕ) (m : Mach) where
   abbrev one : Admission
@@ -70,7 +88,7 @@ module _ (x : ℕ) (m : Mach) where
   contents-same =
       let c = set (m .contents) (m .st .counted) x in
       after-same one (openedOf (sizedOf one c) c) _
-      (after-same one (sizedOf one c) (openedOf (sizedOf one c) c) (sized-same one c) (opened-same (sizedOf one c) c))
+      (let l = all-learnt one c in record { counted = l .counted; closed = l .closed })
       (settled-same (mach (openedOf (sizedOf one c) c) c (m .body) (m .map) (m .verdicts)))
 
   body-same : Same one (bodyByte x m .st)

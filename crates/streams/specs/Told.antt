@@ -3,7 +3,7 @@ use Prim.Native.Nat.{ℕ, zero, suc, _+_, _*_, _≤_, _<_}
 use mathlib.Core.Path.{_≡_}
 use mathlib.Core.List.{List, [], _∷_, _++_}
 use lib.ListN.{length, getD, take, drop}
-use lib.Dec.{eqb}
+use lib.Dec.{ltb, eqb}
 use Rattle.basis.specs.Pick.{pick}
 use Rattle.basis.specs.Answer.{Answer, given, refused}
 use Rattle.pack.specs.Contents.{entryAt}
@@ -13,6 +13,7 @@ use Rattle.verifier.specs.Verify.{Judged, good, names}
 use Rattle.rulings.specs.Rulings.{Ruling}
 use Rattle.admission.specs.Numbers.{startOf}
 use Rattle.admission.specs.Admission.{Mach, admitOf, closeOf}
+use Rattle.admission.specs.declared.Admission.{Admission}
 use Rattle.admission.specs.declared.Admitted.{Admitted}
 
 -- the entry at an index
@@ -86,10 +87,14 @@ pub record Holds (s : List ℕ) (m : Mach) : Type 0 where
   pub short : m .st .judged < m .st .programs → m .st .have < entryOf s (m .st .judged) .length
   pub none : m .st .programs ≤ m .st .judged → m .st .have ≡ 0
 
--- two admissions that hold the same: the numbers, the 514 bytes for the contents, and the bytes of the one body under way
+-- how many bytes of the contents have come
+abbrev pub cameOf : Admission → ℕ
+cameOf st = pick (ltb (st .counted) (st .want)) (st .counted) (st .want)
+
+-- two admissions that hold the same: the numbers, what has come of the contents, and the bytes of the one body under way
 pub record Alike (m n : Mach) : Type 0 where
   pub st : m .st ≡ n .st
-  pub contents : take 514 (m .contents) ≡ take 514 (n .contents)
+  pub contents : take (cameOf (m .st)) (m .contents) ≡ take (cameOf (m .st)) (n .contents)
   pub body : take (m .st .have) (m .body) ≡ take (m .st .have) (n .body)
 
 -- the cells of the first k verdicts are the same
