@@ -219,6 +219,7 @@ impl Admission {
     pub fn provisional(&self) -> impl Iterator<Item = Ruling> + '_ {
         self.first(match self.answer() {
             Answer::Closed(Ok(_)) => 0,
+            // Of a refused pack the library itself tells none.
             _ => c::admit_ask(&self.numbers).verdicts,
         })
     }
