@@ -8,8 +8,8 @@
 //!
 //! PIECE is how many bytes are sent at a time, 1 to 24,576; 64 where it is left out. Prints the
 //! provisional verdicts, and at the end the final ones, or that none stands. Exit status: 0
-//! where the pack and all its rules are accepted, 1 where one is refused, 2 for bad usage or
-//! where the pack did not come.
+//! where the pack and all its rules are accepted, 1 where one is refused, 2 for bad usage,
+//! where the pack did not come, or where the output cannot be written.
 
 use std::ffi::OsString;
 use std::fs::File;
@@ -40,41 +40,46 @@ fn main() -> ExitCode {
 
 /// Starts the server and downloads from it: the exit status.
 fn started(words: &[OsString]) -> Result<u8, String> {
-    let (file, piece) = match words {
-        [file] => (file, PIECE),
-        [file, piece] => (file, number(piece)?),
+    let (name, piece) = match words {
+        [name] => (name, PIECE),
+        [name, piece] => (name, number(piece)?),
         _ => return Err(USAGE.to_string()),
     };
-    let cannot_read = |_| format!("cannot read {}", file.to_string_lossy());
-    let file = File::open(file).map_err(cannot_read)?;
+    let cannot_read = || format!("cannot read {}", name.to_string_lossy());
+    let file = File::open(name).map_err(|_| cannot_read())?;
     let (line, other_end) = UnixStream::pair().map_err(|_| "there is no socket")?;
-    // It ends where the file does, or where nobody takes what it sends.
-    thread::spawn(move || serve(other_end, file, piece));
-    download(line).map_err(|error| format!("the download failed: {error}"))
+    let server = thread::spawn(move || serve(other_end, file, piece));
+    download(line, || match server.join() {
+        Ok(Ok(())) => Ok(()),
+        _ => Err(cannot_read()),
+    })
 }
 
-/// Downloads a pack and tells what is final: the one place that accepts it. Gives the exit
-/// status.
-fn download(mut line: impl Read) -> io::Result<u8> {
-    let mut admission = Box::new(Admission::new());
-    take(&mut admission, &mut line)?;
-    let mut out = io::stdout();
+/// Downloads a pack and tells what is final: the one place that accepts it. Closes only where
+/// the sender says that the line's end is the pack's. Gives the exit status.
+fn download(line: impl Read, sent: impl FnOnce() -> Result<(), String>) -> Result<u8, String> {
+    let mut admission = Admission::new();
+    take(&mut admission, line)?;
+    sent()?;
     if let Err(error) = admission.close() {
         let number = error.number();
-        writeln!(out, "pack refused {number}: no verdict stands")?;
+        tell(format!("pack refused {number}: no verdict stands"))?;
         return Ok(1);
     }
-    for ruling in admission.verdicts() {
-        writeln!(out, "{ruling}")?;
+    let rulings = admission.verdicts().ok_or("there are no final verdicts")?;
+    let mut status = 0;
+    for ruling in rulings {
+        tell(ruling.to_string())?;
+        if ruling.verdict.is_err() {
+            status = 1;
+        }
     }
-    let accepted = admission.verdicts().all(|ruling| ruling.verdict.is_ok());
-    Ok(if accepted { 0 } else { 1 })
+    Ok(status)
 }
 
 /// Admits what comes over a line, until its end or until the pack is lost, and tells each
 /// verdict as soon as it is known.
-fn take(admission: &mut Admission, line: &mut impl Read) -> io::Result<()> {
-    let mut out = io::stdout();
+fn take(admission: &mut Admission, mut line: impl Read) -> Result<(), String> {
     let mut chunk = [0; CHUNK];
     let mut told = 0;
     loop {
@@ -82,30 +87,36 @@ fn take(admission: &mut Admission, line: &mut impl Read) -> io::Result<()> {
             Ok(0) => return Ok(()),
             Ok(count) => count,
             Err(error) if error.kind() == ErrorKind::Interrupted => continue,
-            Err(error) => return Err(error),
+            Err(error) => return Err(format!("the download failed: {error}")),
         };
-        admission.write_all(&chunk[..count])?;
-        for ruling in admission.verdicts().skip(told) {
-            writeln!(out, "provisional: {ruling}")?;
+        let known = admission.feed(&chunk[..count]);
+        known.map_err(|error| error.to_string())?;
+        for ruling in admission.provisional().skip(told) {
+            tell(format!("provisional: {ruling}"))?;
             told += 1;
         }
         if let Some(error) = admission.lost() {
             let number = error.number();
-            writeln!(out, "lost: refused by {number}, whatever follows")?;
-            return Ok(());
+            return tell(format!("lost: refused by {number}, whatever follows"));
         }
     }
 }
 
-/// The server: sends a file piece by piece.
+/// Tells a line, so that it is seen at once.
+fn tell(text: String) -> Result<(), String> {
+    let told = writeln!(io::stdout(), "{text}");
+    told.map_err(|error| format!("cannot write: {error}"))
+}
+
+/// The server: sends a file piece by piece, to its end or as long as somebody takes what it
+/// sends. Fails where the file cannot be read.
 fn serve(mut line: UnixStream, mut file: File, piece: usize) -> io::Result<()> {
     let mut bytes = vec![0; piece];
     loop {
         let count = file.read(&mut bytes)?;
-        if count == 0 {
+        if count == 0 || line.write_all(&bytes[..count]).is_err() {
             return Ok(());
         }
-        line.write_all(&bytes[..count])?;
         thread::sleep(PAUSE);
     }
 }

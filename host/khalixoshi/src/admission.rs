@@ -18,9 +18,10 @@ pub(crate) const VERDICT_CELLS: usize = CELLS * ENTRIES_MAX;
 ///
 /// At the close the pack's own answer is that of [`pack::check`](crate::pack::check) on all
 /// the bytes, and each program's verdict that of [`verify`](crate::verify), wherever the
-/// pack was cut. A verdict is there once the last byte of its program is in, and is
-/// provisional until the close: what follows may still refuse the pack, and a refused pack
-/// has no verdicts. So let no program run before the close.
+/// pack was cut. A program has a [`provisional`](Admission::provisional) verdict once its last
+/// byte is in, but what follows may still refuse the pack, and a refused pack has no verdicts.
+/// A pack is good only where [`close`](Admission::close) gave `Ok`: then, and not before, its
+/// [`verdicts`](Admission::verdicts) are there. So let no program run before the close.
 ///
 /// ```
 /// use khalixoshi::pack::{build, Rule};
@@ -34,12 +35,14 @@ pub(crate) const VERDICT_CELLS: usize = CELLS * ENTRIES_MAX;
 /// let mut admission = Admission::new();
 /// for chunk in pack.chunks(5) {
 ///     let known = admission.feed(chunk)?;
-///     assert_eq!(admission.verdicts().count(), known); // provisional
+///     assert_eq!(admission.provisional().count(), known);
 /// }
 /// assert_eq!(admission.answer(), Answer::Open);
+/// assert!(admission.verdicts().is_none()); // nothing is final
 ///
 /// assert_eq!(admission.close(), Ok(2));
-/// let lines: String = admission.verdicts().map(|ruling| format!("{ruling}\n")).collect();
+/// let rulings = admission.verdicts().expect("the pack is good");
+/// let lines: String = rulings.map(|ruling| format!("{ruling}\n")).collect();
 /// assert_eq!(lines, "0007 accepted\n0009 refused 10 at 0001\n");
 /// assert_eq!(lines, verdicts(&pack));
 ///
@@ -59,23 +62,25 @@ pub(crate) const VERDICT_CELLS: usize = CELLS * ENTRIES_MAX;
 /// let mut admission = Admission::new();
 /// assert_eq!(admission.feed(&pack[..19]), Ok(1));
 /// assert_eq!(admission.close(), Err(Error::PackEnd));
-/// assert_eq!(admission.verdicts().count(), 0);
+/// assert_eq!(admission.provisional().count(), 0);
+/// assert!(admission.verdicts().is_none());
 /// ```
 ///
-/// It is written to as a file is, so what reads from a line can be copied into it:
+/// It is written to as a file is, so what reads from a line can be copied into it. A line may
+/// be endless, and behind byte 24,577 nothing changes the answer: take no more of it.
 ///
 /// ```
-/// use khalixoshi::Admission;
+/// use khalixoshi::{Admission, PACK_MAX};
+/// use std::io::{self, Read};
 ///
-/// let mut line: &[u8] = &[1, 0, 7, 0, 0, 0, 10, 0, 1, 0, 0x00];
+/// let line: &[u8] = &[1, 0, 7, 0, 0, 0, 10, 0, 1, 0, 0x00];
 /// let mut admission = Admission::new();
-/// std::io::copy(&mut line, &mut admission)?;
+/// io::copy(&mut line.take(PACK_MAX as u64 + 1), &mut admission)?;
 /// assert_eq!(admission.close(), Ok(1));
-/// # Ok::<(), std::io::Error>(())
+/// # Ok::<(), io::Error>(())
 /// ```
 ///
-/// It has all its memory, some 50 KB, in itself: where the stack is small, or where it is
-/// handed on often, keep it in a `Box`.
+/// It has memory of its own, some 50 KB on the heap.
 ///
 /// There is one of it, and its close counts for it alone: a copy would go on as if the close
 /// had not been. This does not compile:
@@ -101,10 +106,10 @@ pub(crate) const VERDICT_CELLS: usize = CELLS * ENTRIES_MAX;
 /// ```
 pub struct Admission {
     numbers: [usize; NUMBERS],
-    contents: [u8; CONTENTS_MAX],
-    body: [u8; PROGRAM_MAX],
-    map: [u16; PROGRAM_MAX],
-    verdicts: [u16; VERDICT_CELLS],
+    contents: Box<[u8]>,
+    body: Box<[u8]>,
+    map: Box<[u16]>,
+    verdicts: Box<[u16]>,
 }
 
 /// What an admission says of its pack.
@@ -138,10 +143,10 @@ impl Admission {
     pub fn new() -> Admission {
         let mut admission = Admission {
             numbers: [0; NUMBERS],
-            contents: [0; CONTENTS_MAX],
-            body: [0; PROGRAM_MAX],
-            map: [0; PROGRAM_MAX],
-            verdicts: [0; VERDICT_CELLS],
+            contents: vec![0; CONTENTS_MAX].into_boxed_slice(),
+            body: vec![0; PROGRAM_MAX].into_boxed_slice(),
+            map: vec![0; PROGRAM_MAX].into_boxed_slice(),
+            verdicts: vec![0; VERDICT_CELLS].into_boxed_slice(),
         };
         c::admit_start(&mut admission.numbers);
         admission
@@ -171,10 +176,10 @@ impl Admission {
         ))
     }
 
-    /// Closes it: the pack has come to its end. Gives how many programs it has; their
-    /// verdicts are final now. Refusals: 37, which changes nothing; then the pack's own,
-    /// those of [`pack::check`](crate::pack::check), by which it is closed as well, without
-    /// a verdict.
+    /// Closes it: the pack has come to its end. Gives how many programs it has, and then
+    /// alone the pack is good; their [`verdicts`](Admission::verdicts) are final now.
+    /// Refusals: 37, which changes nothing; then the pack's own, those of
+    /// [`pack::check`](crate::pack::check), by which it is closed as well, without a verdict.
     pub fn close(&mut self) -> Result<usize, Error> {
         answered(&c::admit_close(&mut self.numbers))
     }
@@ -191,6 +196,7 @@ impl Admission {
 
     /// Why the pack is refused whatever follows, where that is known already: by this, or by
     /// 31 if it comes to over [`PACK_MAX`](crate::PACK_MAX) bytes. A host may stop there.
+    /// After the close it is what refused the pack, and `None` of a good one.
     ///
     /// ```
     /// use khalixoshi::{Admission, Error};
@@ -200,17 +206,51 @@ impl Admission {
     /// assert_eq!(admission.lost(), None);
     /// admission.feed(&[0])?; // a pack has at most 64 entries
     /// assert_eq!(admission.lost(), Some(Error::PackContents));
+    /// assert_eq!(admission.close(), Err(Error::PackContents));
+    /// assert_eq!(admission.lost(), Some(Error::PackContents));
     /// # Ok::<(), Error>(())
     /// ```
     pub fn lost(&self) -> Option<Error> {
         Error::unless_none(c::admit_ask(&self.numbers).lost).err()
     }
 
-    /// The verdicts that are known, in the pack's order: provisional before the close, final
-    /// after it, none of a pack that the close refused.
-    pub fn verdicts(&self) -> impl Iterator<Item = Ruling> + '_ {
-        let known = c::admit_ask(&self.numbers).verdicts;
-        self.verdicts.chunks_exact(CELLS).take(known).map(ruling)
+    /// The verdicts that are known while it is open, in the pack's order: to be shown, or to
+    /// prepare what comes next, but not to go by. There are none after the close.
+    pub fn provisional(&self) -> impl Iterator<Item = Ruling> + '_ {
+        self.first(match self.answer() {
+            Answer::Closed(Ok(_)) => 0,
+            // Of a refused pack the library itself tells none.
+            _ => c::admit_ask(&self.numbers).verdicts,
+        })
+    }
+
+    /// The final verdicts, one for each program of a good pack, in the pack's order; `None`
+    /// before the close, and where the close refused the pack.
+    ///
+    /// ```
+    /// use khalixoshi::Admission;
+    ///
+    /// let good = |admission: &Admission| match admission.verdicts() {
+    ///     Some(mut rulings) => rulings.all(|ruling| ruling.verdict.is_ok()),
+    ///     None => false,
+    /// };
+    /// let mut admission = Admission::new();
+    /// admission.feed(&[1, 0, 7, 0, 0, 0, 10, 0, 1, 0, 0x00])?;
+    /// assert!(!good(&admission));
+    /// admission.close()?;
+    /// assert!(good(&admission));
+    /// # Ok::<(), khalixoshi::Error>(())
+    /// ```
+    pub fn verdicts(&self) -> Option<impl Iterator<Item = Ruling> + '_> {
+        match self.answer() {
+            Answer::Closed(Ok(programs)) => Some(self.first(programs)),
+            _ => None,
+        }
+    }
+
+    /// The first verdicts, so many.
+    fn first(&self, count: usize) -> impl Iterator<Item = Ruling> + '_ {
+        self.verdicts.chunks_exact(CELLS).take(count).map(ruling)
     }
 }
 
@@ -225,7 +265,7 @@ impl fmt::Debug for Admission {
         f.debug_struct("Admission")
             .field("answer", &self.answer())
             .field("lost", &self.lost())
-            .field("verdicts", &self.verdicts().count())
+            .field("provisional", &self.provisional().count())
             .finish_non_exhaustive()
     }
 }
@@ -289,25 +329,51 @@ mod tests {
         [1, 2, 1, 0, 0, 0, 0, 0],
     ];
 
-    /// It has no answer but its refusal, and nothing is written.
-    #[test]
-    fn damaged() {
-        for numbers in DAMAGED {
-            let mut admission = Admission {
-                numbers,
-                ..Admission::new()
-            };
-            let damaged = Error::AdmissionDamaged;
-            assert_eq!(admission.feed(&[0, 0]), Err(damaged));
-            assert_eq!(admission.close(), Err(damaged));
-            assert_eq!(admission.answer(), Answer::Closed(Err(damaged)));
-            assert_eq!((admission.verdicts().count(), admission.lost()), (0, None));
-            assert_eq!(admission.numbers, numbers);
-            assert_eq!(admission.contents[..2], [0, 0]);
+    /// A chunk of bytes that no memory of `filled` holds.
+    const CHUNK: [u8; 3] = [2, 0, 4];
+
+    /// An admission of these numbers, whose memories hold something everywhere.
+    fn filled(numbers: [usize; NUMBERS]) -> Admission {
+        let bytes = |count| (0..count).map(|at| at as u8 | 1).collect();
+        let cells = |count| (0..count).map(|at| at as u16 | 1).collect();
+        Admission {
+            numbers,
+            contents: bytes(CONTENTS_MAX),
+            body: bytes(PROGRAM_MAX),
+            map: cells(PROGRAM_MAX),
+            verdicts: cells(VERDICT_CELLS),
         }
     }
 
-    /// Each memory by one too short, before anything else is looked at.
+    /// Numbers and memories are those that it was filled with.
+    fn is_untouched(admission: &Admission, numbers: [usize; NUMBERS]) -> bool {
+        let held = filled(numbers);
+        admission.numbers == held.numbers
+            && admission.contents == held.contents
+            && admission.body == held.body
+            && admission.map == held.map
+            && admission.verdicts == held.verdicts
+    }
+
+    /// It has no answer but its refusal, and nothing is written.
+    #[test]
+    fn damaged() {
+        let damaged = Error::AdmissionDamaged;
+        for numbers in DAMAGED {
+            let mut admission = filled(numbers);
+            assert_eq!(admission.feed(&CHUNK), Err(damaged));
+            assert!(is_untouched(&admission, numbers), "fed: {numbers:?}");
+            assert_eq!(admission.close(), Err(damaged));
+            assert!(is_untouched(&admission, numbers), "closed: {numbers:?}");
+            assert_eq!(admission.answer(), Answer::Closed(Err(damaged)));
+            assert_eq!(admission.lost(), None);
+            assert_eq!(admission.provisional().count(), 0);
+            assert!(admission.verdicts().is_none());
+            assert!(is_untouched(&admission, numbers), "asked: {numbers:?}");
+        }
+    }
+
+    /// Each memory by one too short, before anything else is looked at: nothing is written.
     #[test]
     fn short_of_memory() {
         let lengths = [
@@ -317,25 +383,33 @@ mod tests {
             PROGRAM_MAX,
             VERDICT_CELLS,
         ];
+        let begun = Admission::new().numbers;
         for short in 0..=lengths.len() {
-            let mut lent = Admission::new();
+            let mut lent = filled(begun);
             let length = |place: usize| lengths[place] - usize::from(place == short);
             let answer = c::admit_chunk(
                 &mut lent.numbers[..length(0)],
-                &[0],
+                &CHUNK,
                 &mut lent.contents[..length(1)],
                 &mut lent.body[..length(2)],
                 &mut lent.map[..length(3)],
                 &mut lent.verdicts[..length(4)],
             );
-            let refusal = if short < lengths.len() { 90 } else { 0 };
-            assert_eq!(answer.refusal, refusal, "{short}");
-            assert_eq!(lent.numbers[0], usize::from(short == lengths.len()));
+            let enough = short == lengths.len();
+            assert_eq!(answer.refusal, if enough { 0 } else { 90 }, "{short}");
+            assert_eq!(is_untouched(&lent, begun), !enough, "{short}");
         }
-        let mut numbers = [0; NUMBERS - 1];
+    }
+
+    #[test]
+    fn short_of_numbers() {
+        let short = [7; NUMBERS - 1];
+        let mut numbers = short;
         assert_eq!(c::admit_start(&mut numbers).refusal, 90);
+        assert_eq!(numbers, short);
         assert_eq!(c::admit_close(&mut numbers).refusal, 90);
+        assert_eq!(numbers, short);
         assert_eq!(c::admit_ask(&numbers).refusal, 90);
-        assert_eq!(numbers, [0; NUMBERS - 1]);
+        assert_eq!(numbers, short);
     }
 }

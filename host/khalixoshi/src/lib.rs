@@ -43,7 +43,7 @@
 //! Every memory is lent by the caller, and nothing is kept between calls: calls may run
 //! at the same time, many over one pack too. Beside each function over a lent room
 //! stands one that makes its room itself. An [`Admission`] alone lasts from call to call,
-//! and has its memory in itself.
+//! and has memory of its own.
 
 #![deny(unsafe_code)]
 #![warn(missing_docs)]

@@ -2,6 +2,7 @@
 //! and every refusal by its own number.
 
 use std::io::{ErrorKind, Write};
+use std::thread;
 
 use khalixoshi::pack::{self, Rule};
 use khalixoshi::{
@@ -66,30 +67,34 @@ fn packs() -> Vec<(Vec<u8>, Result<usize, Error>)> {
 }
 
 /// An admission that was fed these chunks.
-fn fed<'a>(chunks: impl IntoIterator<Item = &'a [u8]>) -> Box<Admission> {
-    let mut admission = Box::new(Admission::new());
+fn fed<'a>(chunks: impl IntoIterator<Item = &'a [u8]>) -> Admission {
+    let mut admission = Admission::new();
     for chunk in chunks {
         admission.feed(chunk).unwrap();
     }
     admission
 }
 
-/// What stands in the lines of a pack's verdicts.
+/// What stands in the lines of a pack's verdicts, once it is closed.
 fn lines(admission: &Admission) -> String {
-    match admission.answer() {
-        Answer::Closed(Err(error)) => format!("pack refused {}\n", error.number()),
-        _ => admission.verdicts().map(|one| format!("{one}\n")).collect(),
+    match (admission.answer(), admission.verdicts()) {
+        (Answer::Closed(Ok(_)), Some(all)) => all.map(|one| format!("{one}\n")).collect(),
+        (Answer::Closed(Err(error)), None) => format!("pack refused {}\n", error.number()),
+        (answer, all) => panic!("{answer:?}, final verdicts: {}", all.is_some()),
     }
 }
 
 /// Closes it and holds it to the answers of the whole pack.
-fn closes_as_the_whole(mut admission: Box<Admission>, pack: &[u8]) {
+fn closes_as_the_whole(mut admission: Admission, pack: &[u8]) {
     assert_eq!(admission.answer(), Answer::Open);
+    assert!(admission.verdicts().is_none());
     let answer = admission.close();
     assert_eq!(answer, pack::check(pack), "{pack:02X?}");
     assert_eq!(admission.answer(), Answer::Closed(answer));
     assert_eq!(lines(&admission), verdicts(pack), "{pack:02X?}");
-    assert_eq!(admission.verdicts().count(), answer.unwrap_or(0));
+    assert_eq!(admission.verdicts().map(Iterator::count), answer.ok());
+    assert_eq!(admission.provisional().count(), 0);
+    assert_eq!(admission.lost(), answer.err());
 }
 
 #[test]
@@ -165,7 +170,8 @@ fn a_verdict_with_the_last_byte() {
             let expected: Vec<Ruling> = entries.iter().take_while(ends).map(ruled).collect();
             let known = admission.feed(&pack[length - 1..length]);
             assert_eq!(known, Ok(expected.len()));
-            assert!(admission.verdicts().eq(expected), "after {length} bytes");
+            assert!(admission.provisional().eq(expected), "after {length} bytes");
+            assert!(admission.verdicts().is_none(), "after {length} bytes");
             assert_eq!((admission.answer(), admission.lost()), (Answer::Open, None));
         }
     }
@@ -183,28 +189,29 @@ fn after_the_close() {
             assert_eq!(admission.close(), Err(Error::AdmissionClosed));
             assert_eq!(admission.answer(), Answer::Closed(answer));
             assert_eq!((lines(&admission), admission.lost()), (told.clone(), lost));
+            assert_eq!(admission.provisional().count(), 0);
         }
     }
 }
 
+/// Those told so far are withdrawn by the close.
 #[test]
 fn verdicts_are_withdrawn() {
     let cut = &NIGHTLY[..NIGHTLY.len() - 1];
-    let mut admission = fed([cut]);
-    assert_eq!(admission.verdicts().count(), 9);
-    assert_eq!(admission.close(), Err(Error::PackEnd));
-    assert_eq!(admission.verdicts().count(), 0);
-
-    let mut admission = fed([NIGHTLY, &[0]]);
-    assert_eq!(admission.close(), Err(Error::PackEnd));
-    assert_eq!(admission.verdicts().count(), 0);
-
-    let mut admission = fed([NIGHTLY]);
-    assert_eq!(admission.verdicts().count(), 10);
-    admission.feed(&[0; PACK_MAX]).unwrap();
-    assert_eq!(admission.lost(), Some(Error::PackSize));
-    assert_eq!(admission.close(), Err(Error::PackSize));
-    assert_eq!(admission.verdicts().count(), 0);
+    let long = [NIGHTLY, &[0]].concat();
+    let over = [NIGHTLY, &[0; PACK_MAX]].concat();
+    let withdrawn = [
+        (cut, 9, Error::PackEnd),
+        (&long[..], 10, Error::PackEnd),
+        (&over[..], 10, Error::PackSize),
+    ];
+    for (pack, told, error) in withdrawn {
+        let mut admission = fed(pack.chunks(NIGHTLY.len()));
+        assert_eq!(admission.provisional().count(), told);
+        assert_eq!(admission.close(), Err(error));
+        assert_eq!(admission.provisional().count(), 0);
+        assert!(admission.verdicts().is_none());
+    }
 }
 
 /// A pack that cannot become good is told with the byte that shows it, and may still come to
@@ -232,6 +239,19 @@ fn lost_before_the_close() {
     }
 }
 
+/// Its memory is not on the stack, neither while it is made nor afterwards.
+#[test]
+fn on_a_small_stack() {
+    let pack = halts(&[PROGRAM_MAX, 1]);
+    let admitted = move || {
+        let mut admission = Admission::new();
+        admission.feed(&pack).unwrap();
+        admission.close()
+    };
+    let small = thread::Builder::new().stack_size(65_536);
+    assert_eq!(small.spawn(admitted).unwrap().join().unwrap(), Ok(2));
+}
+
 #[test]
 fn written_to_as_a_file() {
     let mut admission = Admission::new();
@@ -251,7 +271,7 @@ fn shown_to_a_programmer() {
     let shown = format!("{admission:?}");
     assert_eq!(
         shown,
-        "Admission { answer: Open, lost: None, verdicts: 1, .. }"
+        "Admission { answer: Open, lost: None, provisional: 1, .. }"
     );
     admission.close().unwrap();
     assert!(format!("{admission:?}").contains("answer: Closed(Ok(1))"));

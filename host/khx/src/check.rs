@@ -23,9 +23,11 @@ for each rule accepted of which the listing would not show all that runs, a warn
   --stream   check a pack while it comes, from standard input unless a PACK is named, and without holding it
 
 With --stream a line on standard error gives the verdict on each rule as soon as its last byte is in: `khx: provisional:
-TTTT accepted`. What follows may still refuse the pack, and then `khx: withdrawn: ..` takes them all back. Where it is
-refused whatever follows, `khx: lost: ..` says so at once; it is read on to its end, for the number may still become 31,
-but not past 24,577 bytes. Only then come the final verdicts, on standard output, as without --stream; but no listing.
+TTTT accepted`. What follows may still refuse the pack, or not come, and then `khx: withdrawn: ..` takes them all back.
+Where it is refused whatever follows, `khx: lost: ..` says so at once; it is read on to its end, for the number may still
+become 31, but khx stops once byte 24,577 has come. Only then come the final verdicts, on standard output, and for each
+rule refused what its number means and what to do about it. There is no listing, no way that leads there, no hint and no
+warning that a listing hides what runs: for these run khx check on the pack.
 
 PACK may be -, standard input. Exit status: 0 where every rule is accepted, 1 where one is refused.
 ";

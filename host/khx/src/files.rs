@@ -32,25 +32,22 @@ pub fn read_by_head(
 }
 
 /// Hands on what a file holds as it comes, never waiting for more than one byte, until its
-/// end or until the taker says that it has enough.
+/// end or until the taker fails or says that it has enough.
 pub fn read_as_it_comes(
     file: &OsStr,
-    mut has_enough: impl FnMut(&[u8]) -> bool,
+    mut has_enough: impl FnMut(&[u8]) -> Result<bool, Failure>,
 ) -> Result<(), Failure> {
-    let mut read = || -> io::Result<()> {
-        let mut from = opened(file)?;
-        let mut room = [0; 4_096];
-        loop {
-            match from.read(&mut room) {
-                Ok(0) => return Ok(()),
-                Ok(count) if has_enough(&room[..count]) => return Ok(()),
-                Ok(_) => {}
-                Err(error) if error.kind() == ErrorKind::Interrupted => {}
-                Err(error) => return Err(error),
-            }
+    let mut from = opened(file).map_err(|error| unusable(file, &error))?;
+    let mut room = [0; 4_096];
+    loop {
+        match from.read(&mut room) {
+            Ok(0) => return Ok(()),
+            Ok(count) if has_enough(&room[..count])? => return Ok(()),
+            Ok(_) => {}
+            Err(error) if error.kind() == ErrorKind::Interrupted => {}
+            Err(error) => return Err(unusable(file, &error)),
         }
-    };
-    read().map_err(|error| unusable(file, &error))
+    }
 }
 
 /// Writes a file.

@@ -37,13 +37,13 @@ khx: rules of a font sanitiser, checked, listed, run and packed by the proved en
 
 usage: khx COMMAND WORDS..
 
-  check PACK            the verdict on each rule of a pack, and why a rule is refused
-  list FILE             the listing of a program, or of each rule of a pack
-  run PROGRAM TABLE     runs a program over a font table, and says its verdict
-  pack MANIFEST         builds a pack from its rules
-  shapes [BYTE..]       how long each instruction is, what it takes and pushes, by its first byte
-  conform               answers the cases of the conformance protocol
-  bench                 measures the engine against plain C
+  check [--stream] PACK   the verdict on each rule of a pack, also while it comes, and why a rule is refused
+  list FILE               the listing of a program, or of each rule of a pack
+  run PROGRAM TABLE       runs a program over a font table, and says its verdict
+  pack MANIFEST           builds a pack from its rules
+  shapes [BYTE..]         how long each instruction is, what it takes and pushes, by its first byte
+  conform                 answers the cases of the conformance protocol
+  bench                   measures the engine against plain C
 
 `khx COMMAND --help` says more. A file named - is standard input.
 Exit status: 0 good; 1 refused, faulted or no verdict; 2 bad usage, or a file that cannot be read or written.

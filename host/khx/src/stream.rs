@@ -13,7 +13,11 @@ use crate::{aside, files, words};
 pub fn main(mut args: Args, out: &mut dyn Write) -> Result<Outcome, Failure> {
     let file = named(&mut args)?;
     let mut coming = Coming::new();
-    files::read_as_it_comes(&file, |piece| coming.takes(piece))?;
+    let read = files::read_as_it_comes(&file, |piece| coming.takes(piece));
+    if read.is_err() {
+        coming.tell_withdrawn();
+    }
+    read?;
     match coming.closed() {
         Ok(rulings) => good(&rulings, out),
         Err(error) => refused(error, out),
@@ -32,7 +36,7 @@ fn named(args: &mut Args) -> Result<OsString, Failure> {
 
 /// A pack that is coming, and what was told of it.
 struct Coming {
-    admission: Box<Admission>,
+    admission: Admission,
     verdicts: usize,
     lost: Option<Error>,
 }
@@ -40,7 +44,7 @@ struct Coming {
 impl Coming {
     fn new() -> Coming {
         Coming {
-            admission: Box::new(Admission::new()),
+            admission: Admission::new(),
             verdicts: 0,
             lost: None,
         }
@@ -48,32 +52,38 @@ impl Coming {
 
     /// Takes a piece and tells what it brought; whether nothing more can change the answer.
     /// That is so only by 31, which comes before all else.
-    fn takes(&mut self, piece: &[u8]) -> bool {
-        // No piece is refused: it is open.
-        let _ = self.admission.feed(piece);
+    fn takes(&mut self, piece: &[u8]) -> Result<bool, Failure> {
+        let feed = self.admission.feed(piece);
+        feed.map_err(|error| Failure::Refused(error.to_string()))?;
         self.tell_verdicts();
         self.tell_lost();
-        self.lost == Some(Error::PackSize)
+        Ok(self.lost == Some(Error::PackSize))
     }
 
     /// The final verdicts, or what the pack is refused by.
     fn closed(mut self) -> Result<Vec<Ruling>, Error> {
-        let answer = self.admission.close();
-        self.tell_verdicts();
-        answer.map(|_| self.admission.verdicts().collect())
+        if let Err(error) = self.admission.close() {
+            self.tell_withdrawn();
+            return Err(error);
+        }
+        let rulings = self.admission.verdicts().expect("the pack is good");
+        Ok(rulings.collect())
     }
 
-    /// Tells the verdicts that have come, or that those told before are withdrawn.
+    /// Tells the verdicts that have come.
     fn tell_verdicts(&mut self) {
-        let known = self.admission.verdicts().count();
-        if known < self.verdicts {
+        for ruling in self.admission.provisional().skip(self.verdicts) {
+            aside::tell(&format!("provisional: {ruling}"));
+            self.verdicts += 1;
+        }
+    }
+
+    /// Tells that the verdicts told before do not stand, if there are any.
+    fn tell_withdrawn(&self) {
+        if self.verdicts > 0 {
             let verdicts = words::count(self.verdicts, "provisional verdict");
             aside::tell(&format!("withdrawn: {verdicts}"));
         }
-        for ruling in self.admission.verdicts().skip(self.verdicts) {
-            aside::tell(&format!("provisional: {ruling}"));
-        }
-        self.verdicts = known;
     }
 
     fn tell_lost(&mut self) {

@@ -5,8 +5,11 @@ mod start;
 
 use std::fs;
 use std::io::{BufRead, BufReader, Read, Write};
-use std::process::{Child, ChildStderr, ChildStdin, Output};
+use std::os::unix::io::OwnedFd;
+use std::os::unix::net::UnixStream;
+use std::process::{Child, ChildStderr, ChildStdin, Stdio};
 
+use khalixoshi::pack;
 use start::{assert_fails, command, file, khx, khx_reading, started, PACK, ROOT};
 
 /// Two rules of one byte, a halt each, with the tags 7 and 9.
@@ -37,9 +40,7 @@ impl Coming {
 
     /// The next line on standard error is this one: nothing was sent since.
     fn tells(&mut self, expected: &str) {
-        let mut line = String::new();
-        self.told.read_line(&mut line).unwrap();
-        assert_eq!(line, format!("khx: {expected}\n"));
+        tells(&mut self.told, expected);
     }
 
     /// The pack has come to its end, and nothing more is told aside.
@@ -54,6 +55,12 @@ impl Coming {
     }
 }
 
+fn tells(told: &mut impl BufRead, expected: &str) {
+    let mut line = String::new();
+    told.read_line(&mut line).unwrap();
+    assert_eq!(line, format!("khx: {expected}\n"));
+}
+
 fn ended(child: Child, mut told: BufReader<ChildStderr>, status: i32, text: &str) {
     let output = child.wait_with_output().unwrap();
     let mut rest = String::new();
@@ -65,10 +72,6 @@ fn ended(child: Child, mut told: BufReader<ChildStderr>, status: i32, text: &str
 
 fn text(bytes: &[u8]) -> String {
     String::from_utf8_lossy(bytes).into_owned()
-}
-
-fn nightly() -> Vec<u8> {
-    fs::read(format!("{ROOT}/examples/nightly.pack")).unwrap()
 }
 
 #[test]
@@ -115,6 +118,27 @@ fn withdrawn_at_the_end() {
     assert_eq!(output.status.code(), Some(1));
 }
 
+/// A socket is reset where its other end goes away with bytes unread.
+#[test]
+fn withdrawn_where_reading_fails() {
+    let (mut line, other_end) = UnixStream::pair().unwrap();
+    (&other_end).write_all(&[0]).unwrap();
+    let mut command = command(&["check", "--stream"]);
+    command.stdin(OwnedFd::from(other_end));
+    command.stdout(Stdio::piped()).stderr(Stdio::piped());
+    let mut child = command.spawn().unwrap();
+    let mut told = BufReader::new(child.stderr.take().unwrap());
+    line.write_all(&TWO[..19]).unwrap();
+    tells(&mut told, "provisional: 0007 accepted");
+    drop(line);
+    tells(&mut told, "withdrawn: 1 provisional verdict");
+    tells(
+        &mut told,
+        "standard input: Connection reset by peer (os error 104)",
+    );
+    ended(child, told, 2, "");
+}
+
 /// What is over size is told at once, and nothing more is waited for.
 #[test]
 fn withdrawn_by_too_many_bytes() {
@@ -149,20 +173,28 @@ fn lost_is_told_and_the_rest_is_read() {
     assert!(output.stdout.starts_with(b"pack refused 31\n"));
 }
 
-/// Wherever a pack is cut, the verdicts are those of the whole file.
+/// Wherever a pack is cut, the verdicts are those of the whole file. Those of the rules before
+/// the cut are waited for, so that what follows is a piece of its own.
 #[test]
 fn verdicts_as_of_the_whole() {
     let verdicts = fs::read_to_string(format!("{ROOT}/crates/packcheck/stdout")).unwrap();
-    let pack = nightly();
-    for at in [1, 2, 50, 82, 83, 100, pack.len() - 1] {
-        let mut child = started(&["check", "--stream", "-"]);
-        let mut line = child.stdin.take().unwrap();
-        line.write_all(&pack[..at]).unwrap();
-        line.write_all(&pack[at..]).unwrap();
-        drop(line);
-        let Output { stdout, stderr, .. } = child.wait_with_output().unwrap();
-        assert!(text(&stdout).starts_with(&format!("{verdicts}\n0020:\n  refused 5")));
-        assert_eq!(text(&stderr).replace("khx: provisional: ", ""), verdicts);
+    let file = format!("{ROOT}/examples/nightly.pack");
+    let whole = text(&khx(&["check", "--stream", &file]).stdout);
+    assert!(whole.starts_with(&format!("{verdicts}\n0020:\n  refused 5")));
+    let pack = fs::read(file).unwrap();
+    let entries = pack::entries(&pack).unwrap();
+    for at in [1, 2, 50, 82, 83, 86, 87, 100, 110, pack.len() - 1] {
+        let is_before = |entry: &&pack::Entry| usize::from(entry.offset + entry.length) <= at;
+        let before = entries.iter().filter(is_before).count();
+        let mut coming = Coming::new();
+        coming.send(&pack[..at]);
+        for (place, verdict) in verdicts.lines().enumerate() {
+            if place == before {
+                coming.send(&pack[at..]);
+            }
+            coming.tells(&format!("provisional: {verdict}"));
+        }
+        coming.ends(1, &whole);
     }
 }
 
@@ -173,7 +205,7 @@ fn a_file_and_no_rules() {
     assert_eq!(text(&output.stderr), "khx: provisional: 0007 accepted\n");
     assert_eq!(text(&output.stdout), "0007 accepted\n");
     assert_eq!(output.status.code(), Some(0));
-    let output = khx_reading(&["check", "--stream"], &[0, 0]);
+    let output = khx_reading(&["check", "--stream", "-"], &[0, 0]);
     assert_eq!((output.stdout.len(), output.stderr.len()), (0, 0));
     assert_eq!(output.status.code(), Some(0));
     let endless = khx(&["check", "/dev/zero", "--stream"]);

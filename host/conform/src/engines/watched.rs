@@ -57,11 +57,16 @@ impl Watched {
         }
     }
 
+    /// The provisional verdicts and the final ones, of which one kind alone may be there.
     fn shown(&self) -> impl Iterator<Item = Ruling> + '_ {
-        self.admission.verdicts().map(|ruling| Ruling {
-            tag: ruling.tag,
-            verdict: verdict(ruling.verdict),
-        })
+        let last = self.admission.verdicts().into_iter().flatten();
+        self.admission
+            .provisional()
+            .chain(last)
+            .map(|ruling| Ruling {
+                tag: ruling.tag,
+                verdict: verdict(ruling.verdict),
+            })
     }
 
     /// Keeps what is shown now and was not shown before.
