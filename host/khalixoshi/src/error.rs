@@ -185,8 +185,7 @@ mod tests {
         assert_eq!(told, ours);
     }
 
-    /// The header names the same refusals: KHX_DATA_RANGE is DataRange. KHX_CLOSED alone
-    /// has a longer name, since an admission's answer is `Closed` too.
+    /// The header names the same refusals: KHX_DATA_RANGE is DataRange.
     #[test]
     fn names_of_the_header() {
         let (_, list) = HEADER.split_once("KHX_NONE = 0,").unwrap();
@@ -208,10 +207,7 @@ mod tests {
 
     fn camel(name: &str) -> String {
         let word = |word: &str| word[..1].to_string() + &word[1..].to_lowercase();
-        match name {
-            "KHX_CLOSED" => "AdmissionClosed".to_string(),
-            _ => name.split('_').skip(1).map(word).collect(),
-        }
+        name.split('_').skip(1).map(word).collect()
     }
 
     #[test]
