@@ -115,7 +115,7 @@ static bool has_programs(const course *now)
     return now->so_far >= now->contents && now->refusal == 0;
 }
 
-/* How many programs are whole: those that were, and more. A byte too many, which loses the pack, takes none back before the close. */
+/* How many programs are whole: those that were, and more. Bytes past the size take none back before the close. */
 static size_t whole_programs(const course *now)
 {
     const lent *pack = now->pack;
@@ -151,11 +151,13 @@ static void promise_rulings(const admission *one, const course *now, size_t coun
 static void promise_held(const admission *one, const course *now)
 {
     const lent *pack = now->pack;
-    promise(same_bytes(one->memory[CONTENTS].bytes, pack->bytes, least(now->so_far, now->contents)), "the contents are held as they came");
+    size_t contents = least(now->so_far, now->contents);
+    promise(same_bytes(one->memory[CONTENTS].bytes, pack->bytes, contents), "the contents are held as they came");
     if (!has_programs(now) || now->due == number_at(pack, 0))
         return;
     size_t offset = entry_in(pack, now->due).offset;
-    promise(same_bytes(one->memory[BODY].bytes, place_in(pack, offset), in_size(now) - offset), "the body under way is held as it came");
+    size_t body = in_size(now) - offset;
+    promise(same_bytes(one->memory[BODY].bytes, place_in(pack, offset), body), "the body under way is held as it came");
 }
 
 /* How the admission stands before the close, and that to ask it tells the same. */
