@@ -14,9 +14,11 @@
  */
 enum { CHUNKS_MAX = 640, MORE_MAX = 65536 };
 
-/* What has come of a pack, and the verdicts due: their cells by the verifier. */
+/* What has come of a pack, and the verdicts due: their cells by the verifier. What the contents say is worked out once. */
 typedef struct course {
     const lent *pack;
+    size_t contents;   /* their bytes; over 64 entries, and a pack without a count, have those of the count alone */
+    size_t refusal;    /* the number by which they are refused once they are whole, or 0 */
     size_t so_far;
     size_t chunks;
     size_t due;
@@ -62,14 +64,6 @@ static admission lend_enough(input *from)
     return one;
 }
 
-/* The bytes of the contents, as far as the bytes so far tell it: over 64 entries have none. */
-static size_t contents_length(const lent *pack, size_t so_far)
-{
-    if (so_far < HEAD || number_at(pack, 0) > KHX_ENTRIES_MAX)
-        return HEAD;
-    return HEAD + FIELDS * (size_t)number_at(pack, 0);
-}
-
 /* The number by which entries are refused that have all come, or 0. */
 static size_t entries_refusal(const lent *pack)
 {
@@ -87,24 +81,48 @@ static size_t entries_refusal(const lent *pack)
     return 0;
 }
 
-/* The number by which the pack is refused whatever follows the bytes so far, or 0. */
-static size_t lost_by(const lent *pack, size_t so_far)
+/* Nothing has come yet. */
+static void begin(course *now, const lent *pack)
 {
-    if (so_far > KHX_PACK_MAX)
-        return KHX_PACK_SIZE;
-    if (so_far < contents_length(pack, so_far))
-        return 0;
-    return number_at(pack, 0) > KHX_ENTRIES_MAX ? (size_t)KHX_PACK_CONTENTS : entries_refusal(pack);
+    *now = (course){.pack = pack, .contents = HEAD};
+    if (pack->size < HEAD)
+        return;
+    if (number_at(pack, 0) > KHX_ENTRIES_MAX) {
+        now->refusal = KHX_PACK_CONTENTS;
+        return;
+    }
+    now->contents += FIELDS * (size_t)number_at(pack, 0);
+    now->refusal = pack->size < now->contents ? 0 : entries_refusal(pack);
 }
 
-/* How many programs are whole. A byte too many, which loses the pack, takes none back before the close. */
-static size_t whole_programs(const lent *pack, size_t so_far)
+/* The bytes so far that are looked at: those past the size only lose the pack. */
+static size_t in_size(const course *now)
 {
-    size_t in = least(so_far, KHX_PACK_MAX);
-    size_t whole = 0;
-    if (in < contents_length(pack, in) || lost_by(pack, in) != 0)
+    return least(now->so_far, KHX_PACK_MAX);
+}
+
+/* The number by which the pack is refused whatever follows the bytes so far, or 0. */
+static size_t lost_by(const course *now)
+{
+    if (now->so_far > KHX_PACK_MAX)
+        return KHX_PACK_SIZE;
+    return now->so_far < now->contents ? 0 : now->refusal;
+}
+
+/* Whether the contents have come, and are not refused. */
+static bool has_programs(const course *now)
+{
+    return now->so_far >= now->contents && now->refusal == 0;
+}
+
+/* How many programs are whole: those that were, and more. Bytes past the size take none back before the close. */
+static size_t whole_programs(const course *now)
+{
+    const lent *pack = now->pack;
+    size_t whole = now->due;
+    if (!has_programs(now))
         return 0;
-    while (whole < number_at(pack, 0) && (size_t)entry_in(pack, whole).offset + entry_in(pack, whole).length <= in)
+    while (whole < number_at(pack, 0) && (size_t)entry_in(pack, whole).offset + entry_in(pack, whole).length <= in_size(now))
         whole++;
     return whole;
 }
@@ -133,20 +151,20 @@ static void promise_rulings(const admission *one, const course *now, size_t coun
 static void promise_held(const admission *one, const course *now)
 {
     const lent *pack = now->pack;
-    size_t in = least(now->so_far, KHX_PACK_MAX);
-    size_t contents = contents_length(pack, in);
-    promise(same_bytes(one->memory[CONTENTS].bytes, pack->bytes, least(in, contents)), "the contents are held as they came");
-    if (in < contents || lost_by(pack, in) != 0 || now->due == number_at(pack, 0))
+    size_t contents = least(now->so_far, now->contents);
+    promise(same_bytes(one->memory[CONTENTS].bytes, pack->bytes, contents), "the contents are held as they came");
+    if (!has_programs(now) || now->due == number_at(pack, 0))
         return;
     size_t offset = entry_in(pack, now->due).offset;
-    promise(same_bytes(one->memory[BODY].bytes, place_in(pack, offset), in - offset), "the body under way is held as it came");
+    size_t body = in_size(now) - offset;
+    promise(same_bytes(one->memory[BODY].bytes, place_in(pack, offset), body), "the body under way is held as it came");
 }
 
 /* How the admission stands before the close, and that to ask it tells the same. */
 static void promise_stands(const admission *one, course *now, khx_admitted answer)
 {
-    size_t whole = whole_programs(now->pack, now->so_far);
-    khx_admitted should = {0, 0, whole, lost_by(now->pack, now->so_far)};
+    size_t whole = whole_programs(now);
+    khx_admitted should = {0, 0, whole, lost_by(now)};
     promise(answer.verdicts >= now->due && answer.verdicts <= KHX_ENTRIES_MAX, "verdicts are not taken back, and are at most 64");
     promise_answer(answer, should, "before the close each whole program has its verdict, and lost is what nothing can mend");
     promise_answer(ask_one(one), should, "an open admission that is asked tells what the chunk told");
@@ -224,7 +242,7 @@ static void promise_takes_none(const admission *one, const course *now, size_t l
 /* After the close nothing changes any more, and the first answer stays. */
 static void promise_stays_closed(const admission *one, const course *now, khx_admitted first)
 {
-    khx_admitted late = {KHX_CLOSED, first.closed, first.verdicts, first.lost};
+    khx_admitted late = {KHX_ADMISSION_CLOSED, first.closed, first.verdicts, first.lost};
     remember_one(one);
     promise_takes_none(one, now, least(now->pack->size, KHX_CONTENTS_MAX), late);
     promise_takes_none(one, now, 0, late);
@@ -248,15 +266,22 @@ static khx_admitted promise_closes(const admission *one, const course *now)
     return answer;
 }
 
-/* The header's own functions give so many verdicts, and past them none. */
-static void promise_given(const khx_admission *whole, const course *now, size_t count)
+static bool says(khx_verdict verdict, const uint16_t *cells)
 {
+    return verdict.refusal == cells[1] && verdict.at == cells[2];
+}
+
+/* The header's own functions give the verdicts of how it stands, each by its index, and past them none. */
+static void promise_given(const khx_admission *whole, const course *now, khx_admitted stands)
+{
+    static const uint16_t none[3] = {0, KHX_ADMISSION_VERDICT, 0};
     for (size_t i = 0; i <= KHX_ENTRIES_MAX; i++) {
-        const uint16_t none[3] = {0, KHX_ADMISSION_VERDICT, 0};
-        const uint16_t *cells = i < count ? now->cells + 3 * i : none;
-        khx_verdict verdict = khx_admission_verdict(whole, i);
-        promise(khx_admission_tag(whole, i) == cells[0] && verdict.refusal == cells[1] && verdict.at == cells[2],
-                "a verdict is given by its index, and past the last 92");
+        const uint16_t *cells = i < stands.verdicts ? now->cells + 3 * i : none;
+        promise(khx_admission_tag(whole, i) == cells[0], "a tag is given by its index, and past the last 0");
+        promise(says(khx_admission_provisional(whole, i), stands.closed ? none : cells),
+                "a provisional verdict is given by its index, and past the last 92, and after the close");
+        promise(says(khx_admission_verdict(whole, i), stands.closed ? cells : none),
+                "a final verdict is given by its index, and past the last 92, and before the close");
     }
 }
 
@@ -266,14 +291,16 @@ static void promise_same_uncut(input *from, const admission *one, const course *
     const char *what = "wherever a pack is cut, the answers are the same";
     lent all = lend_filled(from, sizeof(khx_admission));
     khx_admission *whole = (khx_admission *)(void *)all.bytes;
-    khx_admitted open = {0, 0, now->due, lost_by(now->pack, now->so_far)};
+    khx_admitted open = {0, 0, now->due, lost_by(now)};
+    promise_given(whole, now, untold(KHX_ADMISSION_DAMAGED));
     promise_answer(khx_admission_start(whole), untold(0), what);
     promise_answer(khx_admission_chunk(whole, now->pack->bytes, now->pack->size), open, what);
+    promise_kept(now->pack);
     promise_answer(khx_admission_ask(whole), open, what);
-    promise_given(whole, now, now->due);
+    promise_given(whole, now, open);
     promise_answer(khx_admission_close(whole), closed, what);
     promise_answer(khx_admission_ask(whole), closed, what);
-    promise_given(whole, now, closed.verdicts);
+    promise_given(whole, now, closed);
     promise(same_bytes(whole->numbers, numbers_of(one), sizeof whole->numbers), "wherever a pack is cut, the numbers are the same");
     promise_around(&all);
 }
@@ -284,7 +311,7 @@ void try_admission(input *from)
     size_t each = take_byte(from);
     lent pack = take_bytes(from);
     admission one = lend_enough(from);
-    now = (course){.pack = &pack};
+    begin(&now, &pack);
     promise_begins(&one, &pack);
     feed_all(from, each, &one, &now);
     khx_admitted closed = promise_closes(&one, &now);

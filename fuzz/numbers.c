@@ -106,7 +106,7 @@ static khx_admitted asked(const admission *one)
 /* What a refused call tells, and that it changes nothing. */
 static void promise_refused(const admission *one, khx_admitted answer, size_t refusal)
 {
-    khx_admitted should = refusal == KHX_CLOSED ? told(refusal, one) : untold(refusal);
+    khx_admitted should = refusal == KHX_ADMISSION_CLOSED ? told(refusal, one) : untold(refusal);
     promise_answer(answer, should, "short memory is 90, then numbers that no admission has 91, then a closed one 37");
     promise_unchanged(one);
 }
@@ -148,7 +148,7 @@ static void promise_fed(const admission *one, const lent *chunk, size_t at)
 {
     size_t refusal = chunk_refusal(one);
     if (refusal == 0 && closed(one))
-        refusal = KHX_CLOSED;
+        refusal = KHX_ADMISSION_CLOSED;
     size_t before = refusal == 0 ? numbers_of(one)[JUDGED] : 0;
     khx_admitted answer = feed_one(one, chunk);
     notice(FED, answer.refusal);
@@ -179,7 +179,7 @@ static void promise_closed(const admission *one)
 {
     size_t refusal = numbers_refusal(one);
     if (refusal == 0 && closed(one))
-        refusal = KHX_CLOSED;
+        refusal = KHX_ADMISSION_CLOSED;
     if (refusal != 0) {
         promise_refused(one, close_one(one), refusal);
         return;
@@ -197,8 +197,8 @@ static void promise_shut(const admission *one, const lent *chunk)
     size_t of_numbers = numbers_refusal(one);
     size_t of_chunk = chunk_refusal(one);
     remember_one(one);
-    promise_refused(one, close_one(one), of_numbers != 0 ? of_numbers : KHX_CLOSED);
-    promise_refused(one, feed_one(one, chunk), of_chunk != 0 ? of_chunk : KHX_CLOSED);
+    promise_refused(one, close_one(one), of_numbers != 0 ? of_numbers : KHX_ADMISSION_CLOSED);
+    promise_refused(one, feed_one(one, chunk), of_chunk != 0 ? of_chunk : KHX_ADMISSION_CLOSED);
     notice(SHUT, of_chunk);
 }
 

@@ -68,10 +68,10 @@ enum {
     KHX_PACK_END = 34,       /* pack: bodies don't end at the pack's end; lookup: one ends past it; writer: lengths and bodies differ */
     KHX_PACK_ENTRY = 35,     /* pack: cells over 1,024 or length over 16,384 */
     KHX_PACK_ABSENT = 36,    /* pack: no such tag */
-    KHX_CLOSED = 37,         /* admission: a chunk or a second close after the close */
+    KHX_ADMISSION_CLOSED = 37,   /* admission: a chunk or a second close after the close */
     KHX_ADMISSION_MEMORY = 90,   /* admission: a memory lent is shorter than stated */
     KHX_ADMISSION_DAMAGED = 91,  /* admission: its numbers are none that one has: not begun, or written over */
-    KHX_ADMISSION_VERDICT = 92   /* admission: no verdict at that index */
+    KHX_ADMISSION_VERDICT = 92   /* admission: no verdict of that kind, final or provisional, at that index */
 };
 
 /* A machine's status. */
@@ -286,7 +286,7 @@ khx_written khx_report(const uint8_t *pack, size_t pack_length, uint16_t *map, s
  * whole: its contents are, and one body at a time. Wherever it was cut, the close answers as khx_pack_check does of all the
  * bytes, and each program has the verdict that khx_verify gives it for the cells of its entry. Before the close the verdicts are
  * provisional: a program has its own once its last byte is in, but what follows may still refuse the pack, and a refused pack has
- * none. Let no program run before the close.
+ * none. A pack is good only where `closed` is 1 and `refusal` is 0: let no program run before.
  *
  * An admission is five memories. The host lends the same ones at each call, and writes nothing there from the start to the last
  * use of a verdict:
@@ -323,7 +323,10 @@ khx_admitted khx_admit_chunk(size_t *numbers, size_t numbers_length, const uint8
  */
 khx_admitted khx_admit_close(size_t *numbers, size_t numbers_length);
 
-/* How an admission stands; nothing is written. Refusals: 90, 91, then after the close the first close's; before it none. */
+/*
+ * How an admission stands; nothing is written. Refusals: 90, 91, then after the close the first close's; before it none: a pack is
+ * good only where `closed` is 1 and `refusal` is 0.
+ */
 khx_admitted khx_admit_ask(const size_t *numbers, size_t numbers_length);
 
 /* The four over the memories in one. */
@@ -350,26 +353,42 @@ static inline khx_admitted khx_admission_ask(const khx_admission *admission)
 }
 
 /*
- * The tag of the program whose verdict is at an index, the first being 0. It is 0 where the index is not below `verdicts` of the answer,
- * and so may a tag be: khx_admission_verdict tells the two apart.
+ * The tag of the program whose verdict is at an index, the first being 0, before the close and after it. It is 0 where the index is
+ * not below `verdicts` of the answer, and so may a tag be: where there is no verdict, 92 tells it.
  */
 static inline uint16_t khx_admission_tag(const khx_admission *admission, size_t index)
 {
     return index < khx_admission_ask(admission).verdicts ? admission->verdicts[3 * index] : (uint16_t)0;
 }
 
-/*
- * The verdict at an index, provisional before the close. Refusals: 92 where the index is not below `verdicts` of the answer; else
- * the program's own.
- */
-static inline khx_verdict khx_admission_verdict(const khx_admission *admission, size_t index)
+/* What the two below share: the verdict at an index where `closed` of the answer is this; else 92. */
+static inline khx_verdict khx_verdict_where(size_t closed, const khx_admission *admission, size_t index)
 {
     khx_verdict verdict = {KHX_ADMISSION_VERDICT, 0};
-    if (index < khx_admission_ask(admission).verdicts) {
+    khx_admitted stands = khx_admission_ask(admission);
+    if (stands.closed == closed && index < stands.verdicts) {
         verdict.refusal = admission->verdicts[3 * index + 1];
         verdict.at = admission->verdicts[3 * index + 2];
     }
     return verdict;
+}
+
+/*
+ * The final verdict at an index. Refusals: 92 before the close, whatever the index, of a pack that the close refused, and where
+ * the index is not below `verdicts` of the answer; else the program's own.
+ */
+static inline khx_verdict khx_admission_verdict(const khx_admission *admission, size_t index)
+{
+    return khx_verdict_where(1, admission, index);
+}
+
+/*
+ * The provisional verdict at an index, to be shown and not to be gone by. Refusals: 92 after the close, whatever the index, and
+ * where the index is not below `verdicts` of the answer; else the program's own.
+ */
+static inline khx_verdict khx_admission_provisional(const khx_admission *admission, size_t index)
+{
+    return khx_verdict_where(0, admission, index);
 }
 
 #ifdef __cplusplus

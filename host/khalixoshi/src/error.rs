@@ -86,7 +86,7 @@ numbers! {
     AdmissionClosed = 37, "a chunk or a second close after the admission's close", "go by the first close's answer; begin another admission for another pack";
     AdmissionMemory = 90, "a memory lent to an admission is shorter than stated", "lend 8 numbers, 514 bytes for the contents, 16,384 bytes for a body, 16,384 cells for its map, 192 cells for the verdicts";
     AdmissionDamaged = 91, "the numbers are none that an admission has", "begin the admission before its first chunk, and write nothing into its memory";
-    AdmissionVerdict = 92, "the admission has no verdict at that index", "ask for those below the count that an answer tells";
+    AdmissionVerdict = 92, "the admission has no verdict at that index", "ask for those below the count that an answer tells, provisional ones before the close and final ones after it";
 }
 
 impl Error {
@@ -185,8 +185,7 @@ mod tests {
         assert_eq!(told, ours);
     }
 
-    /// The header names the same refusals: KHX_DATA_RANGE is DataRange. KHX_CLOSED alone
-    /// has a longer name, since an admission's answer is `Closed` too.
+    /// The header names the same refusals: KHX_DATA_RANGE is DataRange.
     #[test]
     fn names_of_the_header() {
         let (_, list) = HEADER.split_once("KHX_NONE = 0,").unwrap();
@@ -208,10 +207,7 @@ mod tests {
 
     fn camel(name: &str) -> String {
         let word = |word: &str| word[..1].to_string() + &word[1..].to_lowercase();
-        match name {
-            "KHX_CLOSED" => "AdmissionClosed".to_string(),
-            _ => name.split('_').skip(1).map(word).collect(),
-        }
+        name.split('_').skip(1).map(word).collect()
     }
 
     #[test]

@@ -130,13 +130,14 @@ fn bench(mut wanted: Wanted) -> Result<String, Failure> {
         case.agree().map_err(Failure::Refused)?;
     }
     let findings = time(wanted);
-    Ok(format!(
-        "{}{CONDITIONS}\n{}\n{}\n{}",
-        machine(),
+    let mut parts = vec![
+        machine() + CONDITIONS,
         findings::table(&findings),
         findings::by_build(&findings),
-        findings::targets(&findings)
-    ))
+        findings::targets(&findings),
+    ];
+    parts.retain(|part| !part.is_empty());
+    Ok(parts.join("\n"))
 }
 
 fn time(wanted: Wanted) -> Vec<Finding> {
@@ -228,6 +229,14 @@ mod tests {
                 "{line}"
             );
         }
+    }
+
+    /// C has no listing, and no target is set for one.
+    #[test]
+    fn a_part_without_a_line_is_left_out() {
+        let report = wanted(&words("--seconds 0 list")).and_then(bench).unwrap();
+        assert!(report.contains("\nlist ") && !report.contains("ratio to C by"));
+        assert!(!report.contains("\n\n\n") && !report.ends_with("\n\n"));
     }
 
     #[test]

@@ -1,6 +1,6 @@
 //! The functions that are timed, at each of their places, behind functions over slices.
-//! All unsafe code of this crate is written here. Both sides take the same arguments; how they
-//! write their numbers and states is their [`Form`].
+//! All unsafe code of this crate is written here and in functions/admission.rs. Both sides
+//! take the same arguments; how they write their numbers and states is their [`Form`].
 
 mod admission;
 

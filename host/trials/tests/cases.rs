@@ -1,9 +1,12 @@
 //! What the cases are like: repeatable, of every family, at the limits, and such
 //! that every answer that 01 knows is given.
 
+mod streams;
+
 use std::collections::BTreeSet;
 
 use conform::{answer, Second, LINE_MAX};
+use streams::{came, events};
 use trials::{Cases, Kind, Tally, COPIED, NO_CASE};
 
 const SEED: u64 = 1;
@@ -172,19 +175,6 @@ fn every_count(found: BTreeSet<Vec<u8>>) {
         let digits = format!("{count:02x}00");
         assert!(found.contains(digits.as_bytes()), "{count}");
     }
-}
-
-/// The events of a stream.
-fn events(line: &[u8]) -> Option<Vec<&[u8]>> {
-    let events = line.strip_prefix(b"stream ")?;
-    Some(events.split(|&byte| byte == b' ').collect())
-}
-
-/// The chunks of a stream before its close, in hex, one behind the other.
-fn came(events: &[&[u8]]) -> Vec<u8> {
-    let before = events.iter().take_while(|event| **event != b"close");
-    let chunks = before.filter(|event| !matches!(**event, b"ask" | b"-"));
-    chunks.copied().collect::<Vec<_>>().concat()
 }
 
 /// About one case in ten is a stream. Packs come with every number of entries, as long as

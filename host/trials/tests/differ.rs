@@ -1,10 +1,13 @@
 //! Both implementations answer alike, and a planted difference is noticed; a family of
 //! cases can be left out of what is printed.
 
+mod streams;
+
 use std::env;
 use std::process::{Command, Output};
 
 use conform::{answer, Proved, Second};
+use streams::{came, events};
 use trials::{family, trial, Cases, Difference, Planted};
 
 const SEED: u64 = 1;
@@ -112,11 +115,12 @@ fn streams_are_reports() {
     let cases = Cases::new(SEED);
     let (mut good, mut refused) = (0, 0);
     for line in (0..10 * COUNT).map(|number| cases.case(number)) {
-        let answer_of_close = match close_of(&line) {
+        let events = events(&line).unwrap_or_default();
+        let answer_of_close = match close_of(&line, &events) {
             Some(answer) => answer,
             None => continue,
         };
-        let whole = [&b"report "[..], &whole(&line)].concat();
+        let whole = [&b"report "[..], &field(came(&events))].concat();
         assert_eq!(answer_of_close, as_closed(&answer(&Proved, &whole)));
         match answer_of_close.starts_with("good ") {
             true => good += 1,
@@ -127,21 +131,17 @@ fn streams_are_reports() {
 }
 
 /// What the first close of a stream is answered.
-fn close_of(line: &[u8]) -> Option<String> {
-    let mut events = line.strip_prefix(b"stream ")?.split(|&byte| byte == b' ');
-    let place = events.position(|event| event == b"close")?;
+fn close_of(line: &[u8], events: &[&[u8]]) -> Option<String> {
+    let place = events.iter().position(|event| *event == b"close")?;
     let answers = answer(&Proved, line);
     answers.split(" ; ").nth(place).map(String::from)
 }
 
-/// What came before it, as one field.
-fn whole(line: &[u8]) -> Vec<u8> {
-    let events = line.split(|&byte| byte == b' ').skip(1);
-    let before = events.take_while(|event| event != b"close");
-    let chunks = before.filter(|event| event != b"ask" && event != b"-");
-    match chunks.collect::<Vec<_>>().concat() {
-        none if none.is_empty() => b"-".to_vec(),
-        bytes => bytes,
+/// Bytes as a field of a line.
+fn field(hex: Vec<u8>) -> Vec<u8> {
+    match hex.is_empty() {
+        true => b"-".to_vec(),
+        false => hex,
     }
 }
 

@@ -2,6 +2,7 @@
 
 mod proved;
 mod second;
+mod shown;
 mod watched;
 
 pub use self::second::Second;

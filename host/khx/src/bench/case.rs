@@ -21,13 +21,21 @@ pub enum Side {
 }
 
 impl Side {
+    /// The build of C that does it; none where it is the proved library.
+    pub fn build(self) -> Option<&'static peer::Build> {
+        match self {
+            Side::C(build) | Side::Cursor(build) | Side::Memmove(build) => {
+                Some(&peer::BUILDS[build])
+            }
+            Side::Proved | Side::Whole => None,
+        }
+    }
+
     /// What it has as all sides do.
     pub fn functions(self) -> &'static dyn Measured {
-        match self {
-            Side::Proved | Side::Whole => &peer::PROVED,
-            Side::C(build) | Side::Cursor(build) | Side::Memmove(build) => {
-                &peer::BUILDS[build].functions
-            }
+        match self.build() {
+            Some(build) => &build.functions,
+            None => &peer::PROVED,
         }
     }
 }

@@ -310,13 +310,11 @@ impl Work for Run {
     fn call(&mut self, side: Side, place: usize) -> Answer {
         let (program, data, cells) = (&self.program, &mut self.data, &mut self.cells);
         match side {
-            Side::Proved | Side::C(_) | Side::Cursor(_) | Side::Whole => {
-                side.functions().run(place, program, data, cells)
-            }
             Side::Memmove(build) => {
                 let memmove = &peer::BUILDS[build].memmove;
                 memmove.run(place, program, data, cells)
             }
+            _ => side.functions().run(place, program, data, cells),
         }
     }
 
@@ -360,13 +358,11 @@ impl Work for Verify {
     fn call(&mut self, side: Side, place: usize) -> Answer {
         let (program, map) = (&self.program, &mut self.map);
         answer(match side {
-            Side::Proved | Side::C(_) | Side::Memmove(_) | Side::Whole => {
-                side.functions().verify(place, program, CELLS_MAX, map)
-            }
             Side::Cursor(build) => {
                 let cursor = &peer::BUILDS[build].cursor;
                 cursor.verify(place, program, CELLS_MAX, map, &mut self.done)
             }
+            _ => side.functions().verify(place, program, CELLS_MAX, map),
         })
     }
 

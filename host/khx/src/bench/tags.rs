@@ -70,11 +70,9 @@ impl Work for Tags {
 
     fn call(&mut self, side: Side, place: usize) -> Answer {
         let (pack, tags) = (&self.pack, &self.asked);
-        let [refusals, cells, offsets, lengths] = match side {
-            Side::Proved | Side::Whole => self.ours.find(place, pack, tags),
-            Side::C(build) | Side::Cursor(build) | Side::Memmove(build) => {
-                peer::BUILDS[build].scanner.find(place, pack, tags)
-            }
+        let [refusals, cells, offsets, lengths] = match side.build() {
+            Some(build) => build.scanner.find(place, pack, tags),
+            None => self.ours.find(place, pack, tags),
         };
         [refusals, cells, offsets, lengths, 0]
     }
