@@ -167,8 +167,9 @@ typedef struct khx_entry {
  * How an admission stands: by 90 and 91 all else is 0, by any other refusal it is told as without one. `closed` is 1 after the
  * close and 0 before it. `verdicts` is how many programs have their verdict, at most KHX_ENTRIES_MAX: provisional ones before the
  * close, final ones after it, and none of a pack that the close refused. Where `lost` is not 0 the pack is refused whatever
- * follows, by this number, or by 31 if it comes to over KHX_PACK_MAX bytes: a host may stop there, and close. It is told once the contents
- * are whole (30, 32, 33, 35; 30 for too large a count after two bytes) or a byte too many has come (31); 34 comes with the close alone.
+ * follows, by this number, or by 31 if it comes to over KHX_PACK_MAX bytes: a host may stop there, and close. Before the close it is told
+ * after two bytes for too large a count (30), once the contents are whole (32, 33, 35), or once a byte too many has come (31). That a pack is
+ * cut (30, 34) or has bytes behind its last body (34) comes with the close alone. After the close it is what refused the pack, 0 for a good one.
  */
 typedef struct khx_admitted {
     size_t refusal;

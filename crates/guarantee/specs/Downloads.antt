@@ -28,8 +28,8 @@ use Rattle.streams.specs.Told.{entryOf, cellsOf, ruledAt, closedOf, Begun, With
 unfoldable pub TakesAnyChunk : Type 0
 TakesAnyChunk = (cs : List (List ℕ)) (c : List ℕ) (m : Mach) → Begun m → admitOf c (admitAll cs m) .0 ≡ 0
 
--- "keeping only the contents and one body at a time": a chunk, of whatever admission, writes nothing but 514 bytes of contents, 16,384 of a body, as many
--- cells of a map and the 192 of the verdicts, however long the pack is.
+-- "keeping only the contents and one body at a time": beside the numbers a chunk, of whatever admission, writes nothing but 514 bytes of contents, 16,384 of
+-- a body, as many cells of a map and the 192 of the verdicts, however long the pack is.
 unfoldable pub KeepsOnlyThese : Type 0
 KeepsOnlyThese = (c : List ℕ) (m : Mach) → Within m (admitOf c m .1)
 

@@ -56,7 +56,7 @@ pub record Begun (m : Mach) : Type 0 where
 abbrev pub Same : ℕ → List ℕ → List ℕ → Type 0
 Same size before after = (length after ≡ length before) × (drop size after ≡ drop size before)
 
--- "keeping only the contents and one body at a time": of the memory lent, that is all that is written over
+-- "keeping only the contents and one body at a time": beside the numbers that is all that is written over
 pub record Within (before after : Mach) : Type 0 where
   pub contents : Same 514 (before .contents) (after .contents)
   pub body : Same 16384 (before .body) (after .body)

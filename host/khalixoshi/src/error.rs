@@ -86,7 +86,7 @@ numbers! {
     AdmissionClosed = 37, "a chunk or a second close after the admission's close", "go by the first close's answer; begin another admission for another pack";
     AdmissionMemory = 90, "a memory lent to an admission is shorter than stated", "lend 8 numbers, 514 bytes for the contents, 16,384 bytes for a body, 16,384 cells for its map, 192 cells for the verdicts";
     AdmissionDamaged = 91, "the numbers are none that an admission has", "begin the admission before its first chunk, and write nothing into its memory";
-    AdmissionVerdict = 92, "the admission has no verdict at that index", "ask for those below the count that an answer tells, provisional ones before the close and final ones after it";
+    AdmissionVerdict = 92, "the admission has no verdict of that kind, final or provisional, at that index", "ask for those below the count that an answer tells, provisional ones before the close and final ones after it";
 }
 
 impl Error {
