@@ -7,7 +7,7 @@ ghost use Rattle.admission.specs.Admission.{closing_of, ended_of, close_of, ask_
 // The numbers of an admission. `counted`: the bytes that came, 24,577 for more than a pack has; `want`: the bytes of the contents, as
 // far as it is known; `programs`, `end`: of good contents, how many programs there are and where their bodies end; `judged`: how many have
 // their verdict; `have`: the bytes of the next body; `refusal`: what refuses the contents, and after the close the pack, 0 for nothing; `closed`: 1 after the close.
-#[derive(Drop)]
+#[derive(Clone, Copy)]
 pub struct Admission {
     pub counted: usize,
     pub want: usize,
@@ -20,7 +20,7 @@ pub struct Admission {
 }
 
 // What a chunk or a close answers: a refusal's number, 0 for none, and the admission after it.
-#[derive(Drop)]
+#[derive(Clone, Copy)]
 pub struct Admitted {
     pub refusal: usize,
     pub admission: Admission,

@@ -3,7 +3,7 @@ ghost use Rattle.std.specs.Prelude.{◌≡◌, Bool, ◌+◌, ◌-◌, ◌*◌, 
 ghost use Rattle.alu.specs.Values.{flag, pair_of, single_of, shl_of, shr_of};
 
 // An operation on a and b.
-#[derive(Drop)]
+#[derive(Clone, Copy)]
 pub enum Pair {
     Eq,
     Ne,
@@ -22,7 +22,7 @@ pub enum Pair {
 }
 
 // An operation on a alone.
-#[derive(Drop)]
+#[derive(Clone, Copy)]
 pub enum Single {
     Inc,
     Dec,

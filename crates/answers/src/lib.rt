@@ -3,7 +3,7 @@
 
 // An instruction as a value. What the form lacks is 0. Bit i of the flags is set where value i has two bytes.
 #[repr(C)]
-#[derive(Drop)]
+#[derive(Clone, Copy)]
 pub struct KhxInstruction {
     pub code: u8,
     pub count: u8,
@@ -17,7 +17,7 @@ pub struct KhxInstruction {
 
 // What stands at an address: an instruction and its length, all 0 on a refusal.
 #[repr(C)]
-#[derive(Drop)]
+#[derive(Clone, Copy)]
 pub struct KhxDecoded {
     pub refusal: usize,
     pub length: usize,
@@ -26,7 +26,7 @@ pub struct KhxDecoded {
 
 // The row of a first byte: length, values taken, values pushed; refused by 2, and all else 0, where no instruction begins with it.
 #[repr(C)]
-#[derive(Drop)]
+#[derive(Clone, Copy)]
 pub struct KhxRow {
     pub refusal: usize,
     pub length: usize,
@@ -36,7 +36,7 @@ pub struct KhxRow {
 
 // What was written into a room: its length, 0 on a refusal.
 #[repr(C)]
-#[derive(Drop)]
+#[derive(Clone, Copy)]
 pub struct KhxWritten {
     pub refusal: usize,
     pub length: usize,
@@ -44,7 +44,7 @@ pub struct KhxWritten {
 
 // A state: status 0 is running, 1 halted, 2 faulted by the fault's number.
 #[repr(C)]
-#[derive(Drop)]
+#[derive(Clone, Copy)]
 pub struct KhxState {
     pub address: usize,
     pub depth: usize,
@@ -54,7 +54,7 @@ pub struct KhxState {
 
 // What a run came to: the steps taken, 0 on a refusal, and the state.
 #[repr(C)]
-#[derive(Drop)]
+#[derive(Clone, Copy)]
 pub struct KhxRan {
     pub refusal: usize,
     pub steps: u32,
@@ -63,7 +63,7 @@ pub struct KhxRan {
 
 // What the verifier says: accepted, or refused at an instruction, 0 where the refusal names none.
 #[repr(C)]
-#[derive(Drop)]
+#[derive(Clone, Copy)]
 pub struct KhxVerdict {
     pub refusal: usize,
     pub at: usize,
@@ -71,7 +71,7 @@ pub struct KhxVerdict {
 
 // A good pack's count of entries, 0 on a refusal.
 #[repr(C)]
-#[derive(Drop)]
+#[derive(Clone, Copy)]
 pub struct KhxChecked {
     pub refusal: usize,
     pub entries: usize,
@@ -79,7 +79,7 @@ pub struct KhxChecked {
 
 // An entry where `present` is 1; where it is 0, for want of one or on a refusal, all else is 0.
 #[repr(C)]
-#[derive(Drop)]
+#[derive(Clone, Copy)]
 pub struct KhxEntry {
     pub refusal: usize,
     pub present: usize,
@@ -92,7 +92,7 @@ pub struct KhxEntry {
 // What an admission answers: whether it is closed, how many programs have their verdict, and what refuses the pack whatever follows, 0 for
 // nothing; all 0 where the memory is too short or the numbers are none that an admission has.
 #[repr(C)]
-#[derive(Drop)]
+#[derive(Clone, Copy)]
 pub struct KhxAdmitted {
     pub refusal: usize,
     pub closed: usize,

@@ -126,7 +126,7 @@ fn taken(what: u16) -> usize
 }
 
 // An admission, and how many bytes have come.
-#[derive(Drop)]
+#[derive(Clone, Copy)]
 struct Came {
     admission: Admission,
     at: usize,

@@ -9,7 +9,7 @@ use isa::Instruction;
 use shapes::Shape;
 
 // What stands at an address: an instruction and its length, or a refusal's number.
-#[derive(Drop)]
+#[derive(Clone, Copy)]
 pub enum Decoded {
     Read(Instruction, usize),
     Refused(usize),

@@ -2,7 +2,7 @@
 
 // What becomes of an operation: it goes on at an address with a depth, it halts (0) with a depth, or it faults with a
 // number (and 0). Every case has two numbers, so that a move stays in registers.
-#[derive(Drop)]
+#[derive(Clone, Copy)]
 pub enum Move {
     To(usize, usize),
     Halt(usize, usize),

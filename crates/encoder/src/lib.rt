@@ -10,7 +10,7 @@ use forms::{Form, flags_end, form_of, limit_in, value_width, width_in};
 use isa::Instruction;
 
 // What became of an instruction: the bytes written, or a refusal's number.
-#[derive(Drop)]
+#[derive(Clone, Copy)]
 pub enum Encoded {
     Written(usize),
     Refused(usize),

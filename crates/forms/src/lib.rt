@@ -4,7 +4,7 @@ ghost use Rattle.forms.specs.Form.{form_of, code_of, width_in, limit_in, count_i
 
 // What follows the first byte: nothing, a number of one byte, a shift byte, a number of two bytes; or the first byte
 // itself holds a six-bit number, or the count and the flags of one to four values.
-#[derive(Drop)]
+#[derive(Clone, Copy)]
 pub enum Form {
     Plain,
     Byte,

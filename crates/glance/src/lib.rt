@@ -15,7 +15,7 @@ use shapes::Shape;
 
 // What was found of an instruction: where the next one begins; the cells, and the depth at which it was met; the values that it takes
 // and pushes, by its row.
-#[derive(Drop)]
+#[derive(Clone, Copy)]
 struct Found {
     next: usize,
     cells: usize,

@@ -8,7 +8,7 @@ ghost use Rattle.intake.specs.Idle.{capped_at, idle_of};
 use admission::{Admission, Admitted};
 
 // How many bytes were taken, and the admission after them.
-#[derive(Drop)]
+#[derive(Clone, Copy)]
 pub struct Taken {
     pub count: usize,
     pub admission: Admission,

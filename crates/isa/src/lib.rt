@@ -3,7 +3,7 @@ ghost use Rattle.std.specs.Prelude.{◌≡◌};
 ghost use Rattle.isa.specs.Shape.{depth_after, stack_answer};
 
 // An instruction as a value. What the form lacks is 0. Bit i of the flags is set where value i has two bytes.
-#[derive(Drop)]
+#[derive(Clone, Copy)]
 pub struct Instruction {
     pub code: u8,
     pub number: u16,
@@ -17,7 +17,7 @@ pub struct Instruction {
 
 // How an instruction leaves the straight line: 05 to 0A take their target from the stack, 3B to 40 and 55 to 5A have it
 // in the code.
-#[derive(Drop)]
+#[derive(Clone, Copy)]
 pub enum Route {
     Call,
     Jump,
@@ -29,7 +29,7 @@ pub enum Route {
 
 // Where an instruction leads: nowhere, to the next, to an address, to an address or else to the next (with the outcome of
 // "not 0" at which it jumps), to a subroutine, where the stack says, or to a system or an extension function.
-#[derive(Drop)]
+#[derive(Clone, Copy)]
 pub enum Way {
     Stop,
     Next,
@@ -42,7 +42,7 @@ pub enum Way {
 }
 
 // What the stack check finds: the depth afterwards, or a refusal's number.
-#[derive(Drop)]
+#[derive(Clone, Copy)]
 pub enum Stack {
     Depth(usize),
     Refused(usize),

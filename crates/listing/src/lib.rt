@@ -11,7 +11,7 @@ use decoder::decode_by;
 use lines::{line_length, put_line, step_of};
 
 // What became of a listing: the bytes written, or a refusal's number.
-#[derive(Drop)]
+#[derive(Clone, Copy)]
 pub enum Listed {
     Written(usize),
     Refused(usize),

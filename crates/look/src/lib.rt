@@ -6,7 +6,7 @@ ghost use Rattle.look.specs.Look.{is_nine, along, on_way, outcome_in};
 use isa::{Stack, Way};
 
 // A refusal's number; no successor; one, with the depth there; or the next instruction and a target, with their depth.
-#[derive(Drop)]
+#[derive(Clone, Copy)]
 pub enum Look {
     Bad(usize),
     Nowhere,

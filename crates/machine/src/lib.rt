@@ -6,7 +6,7 @@ ghost use Rattle.machine.specs.Run.{came, run_of, outcome_of, ran_outcome};
 use effects::Move;
 
 // Running, halted, or faulted with its number.
-#[derive(Drop)]
+#[derive(Clone, Copy)]
 pub enum Status {
     Running,
     Halted,
@@ -14,7 +14,7 @@ pub enum Status {
 }
 
 // Any state can be handed in: any address, any depth, any status.
-#[derive(Drop)]
+#[derive(Clone, Copy)]
 pub struct State {
     pub address: usize,
     pub depth: usize,
@@ -22,14 +22,14 @@ pub struct State {
 }
 
 // What a run answers: the state and the steps taken, or a refusal's number and the state as it was.
-#[derive(Drop)]
+#[derive(Clone, Copy)]
 pub enum Ran {
     Came(State, u32),
     Refused(usize, State),
 }
 
 // Where a run over memories of allowed sizes came to, and what is left of its budget.
-#[derive(Drop)]
+#[derive(Clone, Copy)]
 struct Went {
     state: State,
     left: u32,

@@ -9,7 +9,7 @@ ghost use Rattle.meeting.specs.Stands.{MeetsAny, InsideNew, WentAny, TurnedAny};
 use look::Look;
 
 // An address is met: for the first time, again at the same depth, or it is refused by a number.
-#[derive(Drop)]
+#[derive(Clone, Copy)]
 enum Meeting {
     New,
     Known,
@@ -17,7 +17,7 @@ enum Meeting {
 }
 
 // An address is examined: the walk goes on, with one address that is due beside the set (16,384 for none), or it stops by a number.
-#[derive(Drop)]
+#[derive(Clone, Copy)]
 pub enum Examined {
     On(usize),
     Stop(usize),

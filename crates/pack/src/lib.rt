@@ -8,7 +8,7 @@ ghost use Rattle.pack.specs.Find.{find_of, body_of, found_answer};
 ghost use Rattle.pack.specs.Lookup.{kept_of, halved_of, lookup_of};
 
 // An entry of the contents: a tag, the cells that its program runs with, and where its body stands in the pack.
-#[derive(Drop)]
+#[derive(Clone, Copy)]
 pub struct Entry {
     pub tag: u16,
     pub cells: u16,
@@ -17,21 +17,21 @@ pub struct Entry {
 }
 
 // Where the bodies of entries end, or a refusal's number.
-#[derive(Drop)]
+#[derive(Clone, Copy)]
 pub enum Bodies {
     End(usize),
     Refused(usize),
 }
 
 // A good pack with the count of its entries, or a refusal's number.
-#[derive(Drop)]
+#[derive(Clone, Copy)]
 pub enum Checked {
     Entries(usize),
     Refused(usize),
 }
 
 // The entry at an index, none where the pack has not so many, or a refusal's number.
-#[derive(Drop)]
+#[derive(Clone, Copy)]
 pub enum Listed {
     Entry(Entry),
     Past,
@@ -39,7 +39,7 @@ pub enum Listed {
 }
 
 // The entry of the program that was asked for, or a refusal's number. A program may be empty: its length is then 0.
-#[derive(Drop)]
+#[derive(Clone, Copy)]
 pub enum Found {
     Program(Entry),
     Refused(usize),

@@ -10,7 +10,7 @@ use layout::put_pack;
 use pack::{Bodies, Entry, refusal_of};
 
 // What became of a pack: the bytes written, or a refusal's number.
-#[derive(Drop)]
+#[derive(Clone, Copy)]
 pub enum Written {
     Bytes(usize),
     Refused(usize),

@@ -12,7 +12,7 @@ ghost use Rattle.report.specs.Report.{laid_over, report_of, map_in, write_of, ma
 use pack::{Entry, Listed};
 
 // What became of a report: the bytes written, or a refusal's number.
-#[derive(Drop)]
+#[derive(Clone, Copy)]
 pub enum Reported {
     Written(usize),
     Refused(usize),

@@ -3,7 +3,7 @@ ghost use Rattle.std.specs.Prelude.{◌≡◌};
 ghost use Rattle.shapes.specs.Shapes.{shape_of, shape_rows};
 
 // The row of a first byte: length, values taken, values pushed; or no instruction begins with it.
-#[derive(Drop)]
+#[derive(Clone, Copy)]
 pub enum Shape {
     Row(usize, usize, usize),
     Illegal,

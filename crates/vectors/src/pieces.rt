@@ -5,7 +5,7 @@ ghost use Rattle.std.specs.Prelude.{◌≤◌};
 use crate::given;
 
 // How far pieces were read, and how far they reach in their room.
-#[derive(Drop)]
+#[derive(Clone, Copy)]
 pub struct Laid {
     pub read: usize,
     pub reach: usize,

@@ -6,7 +6,7 @@ ghost use Rattle.verifier.specs.Verify.{walk_of, on_walk, verify_of, judged_in};
 use meeting::Examined;
 
 // Accepted; refused by a number before the walk; or refused by a number at the instruction that the walk examined.
-#[derive(Drop)]
+#[derive(Clone, Copy)]
 pub enum Verdict {
     Accepted,
     Refused(usize),
