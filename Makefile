@@ -4,13 +4,13 @@
 .PHONY: run test host c-example soak fuzz
 
 library = target/staticlib/libkhalixoshi.a
-families = $(shell sed -n 's/^\(face_[a-z_]*\):.*/\1/p' crates.txt)
+families = $(shell sed -n 's/^\([a-z_]*\) staticlib:.*/\1/p' crates.txt)
 N = 10000000
 SEED = 2
 SECONDS = 600
 
 run: host
-	@mkdir -p target && rt check packcheck >target/run.log 2>&1 || { cat target/run.log; exit 1; }
+	@mkdir -p target && tools/built packcheck >target/run.log 2>&1 || { cat target/run.log; exit 1; }
 	@echo "examples/nightly.pack" && tools/start packcheck < examples/nightly.pack
 	@echo "examples/fonts.pack" && tools/start packcheck < examples/fonts.pack
 	@tools/need python3 python3 && tools/fonts
@@ -19,9 +19,9 @@ test:
 	@.ci/run
 
 # The proved library for x86-64, as C and Rust link it: rt proves each family of its face before that is built; then they are merged.
-$(library): crates.txt tools/archive tools/placed $(shell find crates -path '*/src/*.rt')
+$(library): crates.txt tools/archive tools/placed $(wildcard crates/*/src/*.rt crates/*/src/*/*.rt)
 	@echo "building libkhalixoshi.a: its crates are proved first, which takes some minutes" >&2
-	@mkdir -p target && (for family in $(families); do rt staticlib $$family || exit 1; done) >target/staticlib.log 2>&1 || { cat target/staticlib.log; exit 1; }
+	@mkdir -p target && (for family in $(families); do echo "== $$family" && (cd crates/$$family && rt lib) || exit 1; done) >target/staticlib.log 2>&1 || { cat target/staticlib.log; exit 1; }
 	@tools/archive $(families)
 
 # The same code for this processor, where it is no x86-64, to be timed.
