@@ -7,6 +7,7 @@ from sources import rattle
 
 TOP = pathlib.Path(__file__).resolve().parent.parent.parent
 NAMED = ("fn", "struct", "enum", "const", "type")
+OUTSIDE = re.compile(r"\bHostRuntime\b|\bstd\s*::\s*(?:\{[^;]*\b)?(?:io|fs|env|net|os|process|rt|thread|time)\b")
 
 
 class Public(NamedTuple):
@@ -36,7 +37,7 @@ def folders(top=TOP):
 def reached(top=TOP):
     """What each crate stands on, by crates.txt, directly or through others."""
     listed = (top / "crates.txt").read_text(encoding="utf-8") if (top / "crates.txt").exists() else ""
-    direct = {name: rest.split() for name, rest in re.findall(r"^(\w+):([^#\n]*)", listed, re.MULTILINE)}
+    direct = {name: rest.split() for name, rest in re.findall(r"^(\w+)(?: staticlib)?:([^#\n]*)", listed, re.MULTILINE)}
     found = {}
 
     def below(name):
@@ -48,11 +49,18 @@ def reached(top=TOP):
     return {name: below(name) for name in direct}
 
 
+def reads_or_prints(folder):
+    """Whether a crate names what only programs use: files, input, output, the environment, the clock, or the handle that `main` gets."""
+    return any(OUTSIDE.search(re.sub(r"//.*", "", file.read_text(encoding="utf-8"))) for file in folder.glob("src/**/*.rt"))
+
+
 def libraries(top=TOP):
-    """The libraries that a host can link. One that stands on the kit's libraries for programs (io, os and the C library) is a part of
-    programs, as they are: what it prints is tested, and nothing is promised."""
+    """The libraries that a host can link. One that reads or prints, or stands on one that does, is a part of programs, as they are: what it
+    prints is tested, and nothing is promised."""
     stands_on = reached(top)
-    return [folder for folder in folders(top) if (folder / "src" / "lib.rt").exists() and not stands_on.get(folder.name, set()) & {"io", "os", "libc"}]
+    of_programs = {folder.name for folder in folders(top) if reads_or_prints(folder)}
+    return [folder for folder in folders(top)
+            if (folder / "src" / "lib.rt").exists() and not ({folder.name} | stands_on.get(folder.name, set())) & of_programs]
 
 
 def words_of(items):

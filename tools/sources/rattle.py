@@ -151,12 +151,11 @@ class Source:
             read.append(self.item(within))
 
     def item(self, within):
+        self.of_file()
         about = self.comment()
         attributes = []
         while self.peek() == "#":
             _, begin = self.take("#")
-            if self.peek() == "!":
-                self.take("!")
             self.take("[")
             self.bracketed("[")
             attributes.append(self.text[begin:self.at])
@@ -175,7 +174,7 @@ class Source:
                 self.token()
             exported = exported or token == "extern"
             token, _ = self.token()
-        exported = exported or any(re.match(r"#\[\s*(?:no_mangle|export_name)\b", one) for one in attributes)
+        exported = exported or any(re.match(r"#\[\s*(?:unsafe\s*\(\s*)?(?:no_mangle|export_name)\b", one) for one in attributes)
         kind = token
         made = dict(
             kind=kind, name="", public=public, exported=exported, within=within, about=about, attributes=tuple(attributes),
@@ -213,6 +212,17 @@ class Source:
             self.take("{")
             return Item(**{**made, "name": owner.group(1), "items": self.items("}", owner.group(1))})
         self.wrong(f"an item of another form, at `{kind}`")
+
+    def of_file(self):
+        """Moves past the attributes of a whole file, which say nothing of an item."""
+        while True:
+            at = self.at
+            if self.token()[0] != "#" or self.peek() != "!":
+                self.at = at
+                return
+            self.take("!")
+            self.take("[")
+            self.bracketed("[")
 
     def leads_to_function(self):
         at = self.at
