@@ -1,5 +1,7 @@
 // A rule pack that is admitted while it comes: the numbers of an admission, as it begins, is asked and is closed. What a byte does to them and to the
 // lent memory stands in specs/; the crates above do it.
+#![tactic(auto)]
+
 ghost use Rattle.std.specs.Prelude.{◌≡◌};
 ghost use Rattle.admission.specs.Numbers.{start_of, wild_of, torn_of, damaged_of, lost_of};
 ghost use Rattle.admission.specs.Admission.{closing_of, ended_of, close_of, ask_of};

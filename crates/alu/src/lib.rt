@@ -1,4 +1,6 @@
 // The value operations of the machine, on sixteen bits.
+#![tactic(auto)]
+
 ghost use Rattle.std.specs.Prelude.{◌≡◌, Bool, ◌+◌, ◌-◌, ◌*◌, ◌%◌, ◌^◌};
 ghost use Rattle.alu.specs.Values.{flag, pair_of, single_of, shl_of, shr_of};
 

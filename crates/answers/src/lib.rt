@@ -1,5 +1,6 @@
 // The answers of the public functions, and a machine's state, as structs of numbers that C can hold. A refusal of 0 is none.
 // What each number says stands in specs/; there is no code.
+#![tactic(auto)]
 
 // An instruction as a value. What the form lacks is 0. Bit i of the flags is set where value i has two bytes.
 #[repr(C)]

@@ -1,4 +1,6 @@
 // Bytes of a pack come: one that may end the contents or a body, or some that end nothing and are only stored.
+#![tactic(auto)]
+
 ghost use Rattle.std.specs.Prelude.{◌≡◌, ℕ, ◌≤◌, ◌<◌, List, length};
 ghost use Rattle.admission.specs.Admission.{mach, sized_of, opened_of, byte_of, chunk_of};
 ghost use Rattle.admission.specs.Fit.{Sound, Fit};

@@ -1,4 +1,6 @@
 // Numbers in lent bytes, low byte first: the two functions that every reader and writer above shares.
+#![tactic(auto)]
+
 ghost use Rattle.std.specs.Prelude.{◌≡◌, ◌+◌, ◌≤◌, length};
 ghost use Rattle.std.proofs.lemmas.List.Edits.{sets};
 ghost use Rattle.basis.specs.Number.{number_at, bytes_of};

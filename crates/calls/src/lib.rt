@@ -1,4 +1,6 @@
 // Calls, and the system and the extension functions: each takes its operands, checks 4, 5 and 8, and says where it leads.
+#![tactic(auto)]
+
 ghost use Rattle.std.specs.Prelude.{◌≡◌, List, ℕ, ◌≤◌, ◌<◌, length};
 ghost use Rattle.isa.specs.Op.{Taken, Given};
 ghost use Rattle.isa.specs.declared.Route.TheVariants.{Call, System, Extension};

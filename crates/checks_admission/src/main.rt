@@ -2,6 +2,8 @@
 // A case is `A`, all bytes that come, in pieces, how many events there are, and for each how often it comes and what comes: 65,535 is a close, 65,534 an
 // ask, any other number a chunk of so many bytes, those behind the ones before. Numbers have two bytes, the low one first. An event that comes several times is answered once, as it is
 // the last time.
+#![tactic(auto)]
+
 ghost use Rattle.std.specs.Prelude.{◌<◌, ◌≤◌};
 
 use admission::{Admission, Admitted};

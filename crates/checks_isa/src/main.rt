@@ -1,6 +1,8 @@
 // Asks the decoder, the encoder and the table of shapes every case on standard input and prints every answer, one line each.
 // A case is `D`, the program's length (two bytes), an address (four) and the program; or `E`, a code, a number (two), a
 // count, flags, four values (two each), the room's length (two) and the room; or `S` and a first byte. Numbers have their low byte first.
+#![tactic(auto)]
+
 use encoder::Encoded;
 use isa::Instruction;
 use libc::STDIN_FILENO;

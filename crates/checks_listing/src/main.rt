@@ -3,6 +3,8 @@
 // byte of the room. Or it is `N`, how often a reader is asked (two bytes), and a program; it is answered with each answer and
 // the address after them. A program is given in pieces. Numbers have their low byte first. A room that is longer than what is
 // given of it repeats that.
+#![tactic(auto)]
+
 ghost use Rattle.std.specs.Prelude.{◌≤◌};
 
 use libc::STDIN_FILENO;

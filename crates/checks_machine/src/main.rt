@@ -3,6 +3,8 @@
 // its length in four bytes; the cells: the same, the cells given in two bytes each; the state: address (four), depth (two),
 // status (0 running, 1 halted, 2 faulted), fault number; the budget (four). Numbers have their low byte first. A memory that
 // is longer than what is given of it repeats that.
+#![tactic(auto)]
+
 ghost use Rattle.std.specs.Prelude.{◌≤◌};
 
 use libc::STDIN_FILENO;

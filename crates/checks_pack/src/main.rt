@@ -3,6 +3,8 @@
 // the program found; `L` and the same, looked up; or `W`, three lists (tags, cells, lengths: each its count and its numbers, two bytes each), the bodies, and
 // a room: its length (four bytes), how many bytes are given (two), these; it is answered with every byte of the room. A pack and
 // bodies are given in pieces. Numbers have their low byte first. A room that is longer than what is given of it repeats that.
+#![tactic(auto)]
+
 ghost use Rattle.std.specs.Prelude.{◌≤◌};
 
 use libc::STDIN_FILENO;

@@ -2,6 +2,8 @@
 // A case is `V`; the number of stack cells (four bytes); the map lent: its length (four), how many cells are given (two), these,
 // two bytes each; the program, in pieces. Numbers have their low byte first. A map that is longer than what is given of it
 // repeats that.
+#![tactic(auto)]
+
 use libc::STDIN_FILENO;
 use vectors::{given, pieces, rooms, said};
 use verifier::Verdict;

@@ -1,4 +1,6 @@
 // The copies, from data and from the program: each takes three operands, checks 4, 6 and 7, copies and pushes one value.
+#![tactic(auto)]
+
 ghost use Rattle.std.specs.Prelude.{◌≡◌, ◌+◌, leb};
 
 mod data_copy;

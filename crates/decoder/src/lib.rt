@@ -1,4 +1,6 @@
 // Reading one instruction: its shape by the table, its parts by its form.
+#![tactic(auto)]
+
 ghost use Rattle.std.specs.Prelude.{◌≡◌, ◌+◌, ◌≤◌, ◌<◌, length, get_or};
 ghost use Rattle.forms.specs.Form.{length_of, width_in, width0, width1, width2, width3};
 ghost use Rattle.shapes.specs.Shapes.{shape_rows};

@@ -1,4 +1,6 @@
 // One instruction, told by its first byte: an arm for each of 00 to 5A, so that a step is one jump.
+#![tactic(auto)]
+
 mod bytes;
 mod numbered;
 mod plain;

@@ -1,4 +1,6 @@
 // The C face of an admission: its eight numbers and its memory are lent, and changed in place.
+#![tactic(auto)]
+
 ghost use Rattle.std.specs.Prelude.{◌≡◌, ◌≤◌, length};
 ghost use Rattle.answers.specs.Admissions.{admission_of, kept_in, untold, told_in, start_in, close_in, ask_in, lent, chunk_in};
 

@@ -1,4 +1,6 @@
 // The C face of instructions, each answer as numbers: read at an address, read one after the other, written; and the table of shapes.
+#![tactic(auto)]
+
 ghost use Rattle.std.specs.Prelude.{◌≡◌, length};
 ghost use Rattle.basis.specs.Answer.{seen};
 ghost use Rattle.basis.specs.Room.{room_after};

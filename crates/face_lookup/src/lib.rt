@@ -1,5 +1,7 @@
 // The C face of looking up a tag in a pack that was checked before. It is a family of its own, with one caller of what halves, and says its
 // answer in place: so the compiler makes it one function without a call, which hosts ask for every table of every font.
+#![tactic(auto)]
+
 ghost use Rattle.std.specs.Prelude.{◌≡◌};
 ghost use Rattle.pack.specs.Lookup.{lookup_of};
 ghost use Rattle.answers.specs.Packs.{found_in};

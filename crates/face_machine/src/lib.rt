@@ -1,4 +1,6 @@
 // The C face of the machine, its answer as numbers: the run.
+#![tactic(auto)]
+
 ghost use Rattle.std.specs.Prelude.{◌≡◌};
 ghost use Rattle.machine.specs.Machine.{machine};
 ghost use Rattle.machine.specs.Run.{outcome_of};

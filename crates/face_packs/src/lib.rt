@@ -1,4 +1,6 @@
 // The C face of rule packs, each answer as numbers: checked, their entries by index and by tag, written.
+#![tactic(auto)]
+
 ghost use Rattle.std.specs.Prelude.{◌≡◌, length};
 ghost use Rattle.std.proofs.Math.ListN.{get_elem?};
 ghost use Rattle.basis.specs.Answer.{seen};

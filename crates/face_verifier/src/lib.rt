@@ -1,4 +1,6 @@
 // The C face of the verifier, its answer as numbers.
+#![tactic(auto)]
+
 ghost use Rattle.std.specs.Prelude.{◌≡◌};
 ghost use Rattle.verifier.specs.Verify.{verify_of};
 ghost use Rattle.answers.specs.Verdicts.{verified_in};

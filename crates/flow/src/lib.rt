@@ -1,4 +1,6 @@
 // Halting, jumping and branching: each takes its operands, checks 4, and says where it leads.
+#![tactic(auto)]
+
 ghost use Rattle.std.specs.Prelude.{◌≡◌, List, ℕ, ◌≤◌, length};
 ghost use Rattle.isa.specs.Op.{Halt, Taken, Given};
 ghost use Rattle.isa.specs.declared.Route.TheVariants.{Jump};

@@ -1,4 +1,6 @@
 // The forms of instructions: what the first byte says of the bytes that follow it.
+#![tactic(auto)]
+
 ghost use Rattle.std.specs.Prelude.{◌≡◌, ◌^◌, ◌≤◌};
 ghost use Rattle.forms.specs.Form.{form_of, code_of, width_in, limit_in, count_in, flags_in, value_width};
 

@@ -1,4 +1,6 @@
 // What an instruction leads to at a depth, before it is run: its shape is the table's row, and its first byte says where it leads.
+#![tactic(auto)]
+
 ghost use Rattle.std.specs.Prelude.{◌≡◌, not, ◌+◌, ◌<◌, ◌≤◌, ltb, length, get_or};
 ghost use Rattle.basis.specs.Pick.{pick};
 ghost use Rattle.forms.specs.Form.{length_of};

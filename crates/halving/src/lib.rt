@@ -1,5 +1,7 @@
 // Finding a number by halving, among entries that stand one after the other in lent bytes: each begins with a number of two bytes, and
 // these rise. Where the first stands and how far apart they are is told: a pack has its entries 8 bytes apart from its third byte on.
+#![tactic(auto)]
+
 ghost use Rattle.std.specs.Prelude.{◌≡◌, ◌+◌, ◌*◌, ◌<◌, ◌≤◌, length};
 ghost use Rattle.halving.specs.Halving.{later_of, halved, narrowed, reached};
 

@@ -1,4 +1,6 @@
 // A chunk of a pack comes, of any length: its bytes are counted, stored or judged, as many at a time as end nothing.
+#![tactic(auto)]
+
 ghost use Rattle.std.specs.Prelude.{◌≡◌, ◌+◌, ◌≤◌, ◌<◌, length, take};
 ghost use Rattle.admission.specs.Numbers.{counts};
 ghost use Rattle.admission.specs.Admission.{mach, chunk_of, short_of, admit_of, admitted_as};

@@ -1,4 +1,6 @@
 // What an instruction is: its parts as a value, the ways it can lead, and the stack check.
+#![tactic(auto)]
+
 ghost use Rattle.std.specs.Prelude.{◌≡◌};
 ghost use Rattle.isa.specs.Shape.{depth_after, stack_answer};
 

@@ -1,4 +1,6 @@
 // The parts of a rule pack put into a lent room: entries from tags, cells and lengths, and the bodies end to end.
+#![tactic(auto)]
+
 ghost use Rattle.std.specs.Prelude.{◌≡◌, true, ◌+◌, ◌*◌, ◌≤◌, length};
 ghost use Rattle.std.proofs.lemmas.List.Edits.{sets};
 ghost use Rattle.pack.specs.Contents.{first_of};

@@ -1,4 +1,6 @@
 // One line of a listing, written into a lent room.
+#![tactic(auto)]
+
 ghost use Rattle.std.specs.Prelude.{◌≡◌, ◌+◌, ◌≤◌, length};
 ghost use Rattle.decoder.specs.Decode.{decoded_answer};
 ghost use Rattle.text.specs.Put.{Put};

@@ -1,4 +1,6 @@
 // The listing of a program, one line for each instruction, written into a lent room.
+#![tactic(auto)]
+
 ghost use Rattle.std.specs.Prelude.{◌≡◌, ◌≤◌, length};
 ghost use Rattle.std.proofs.lemmas.List.Edits.{sets};
 ghost use Rattle.basis.specs.Answer.{seen};

@@ -1,4 +1,6 @@
 // Loads: at the number in the code, at a and that number, at a and b. Each takes its operands, checks 4, 5 and 6, and pushes what it read.
+#![tactic(auto)]
+
 ghost use Rattle.std.specs.Prelude.{◌≡◌, List, ℕ, ◌-◌, ◌≤◌, ◌<◌, length};
 ghost use Rattle.isa.specs.Op.{Load};
 ghost use Rattle.effects.specs.Memory.{operand_of};

@@ -1,4 +1,6 @@
 // What an instruction leads to at a depth, before it is run: a refusal, or its successors, by its way and the stack check.
+#![tactic(auto)]
+
 ghost use Rattle.std.specs.Prelude.{◌≡◌};
 ghost use Rattle.isa.specs.Shape.{stack_answer};
 ghost use Rattle.look.specs.Look.{is_nine, along, on_way, outcome_in};

@@ -1,4 +1,6 @@
 // The machine: a state that is handed in and handed back, stepped over lent memories.
+#![tactic(auto)]
+
 ghost use Rattle.std.specs.Prelude.{◌≡◌, ◌-◌, ◌≤◌, length};
 ghost use Rattle.machine.specs.Machine.{machine, fresh, state_after, step_of};
 ghost use Rattle.machine.specs.Run.{came, run_of, outcome_of, ran_outcome};

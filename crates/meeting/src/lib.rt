@@ -1,4 +1,6 @@
 // The walk's single steps: an address is examined, and the addresses that it leads to are met.
+#![tactic(auto)]
+
 ghost use Rattle.std.specs.Prelude.{◌≡◌, List, [], ◌∷◌, ℕ, ◌<◌, ◌≤◌, length, get_or};
 ghost use Rattle.paths.specs.Paths.{hop};
 ghost use Rattle.pending.specs.Sets.{Topped};

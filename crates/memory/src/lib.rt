@@ -1,4 +1,6 @@
 // What all accesses to the data share: the exact sum of an address, and the push of the one value that each leaves.
+#![tactic(auto)]
+
 ghost use Rattle.std.specs.Prelude.{◌≡◌, [], ◌∷◌, ◌+◌, ◌<◌, length};
 ghost use Rattle.effects.specs.Memory.{pushed};
 ghost use Rattle.effects.specs.declared.Move.TheVariants.{To};

@@ -1,4 +1,6 @@
 // The names of the codes: a table of rows that a caller makes once and lends.
+#![tactic(auto)]
+
 ghost use Rattle.std.specs.Prelude.{◌≡◌, ◌+◌, ◌≤◌, ◌<◌, length};
 ghost use Rattle.text.specs.Put.{Put};
 ghost use Rattle.names.specs.Names.{place_of, name_of};

@@ -1,4 +1,6 @@
 // The operands of an instruction, as a line shows them.
+#![tactic(auto)]
+
 ghost use Rattle.std.specs.Prelude.{◌≡◌, ◌+◌, ◌≤◌, length};
 ghost use Rattle.text.specs.Put.{Put};
 ghost use Rattle.operands.specs.Operands.{operand_of, shown_in, operands_of};

@@ -1,4 +1,6 @@
 // Reading a rule pack: its check, its entries by index and by tag, and the body of an entry.
+#![tactic(auto)]
+
 ghost use Rattle.std.specs.Prelude.{◌≡◌, ◌+◌, ◌≤◌, length};
 ghost use Rattle.std.proofs.Math.ListN.{get_elem?};
 ghost use Rattle.basis.specs.Answer.{seen};

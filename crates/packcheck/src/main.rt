@@ -1,4 +1,6 @@
 // Reads a rule pack on standard input and prints what the verifier says of each program, or what refuses the pack.
+#![tactic(auto)]
+
 use libc::{STDIN_FILENO, STDOUT_FILENO};
 use report::Reported;
 

@@ -1,4 +1,6 @@
 // Writing a rule pack from tags, cells and lengths, with the bodies end to end, into a lent room.
+#![tactic(auto)]
+
 ghost use Rattle.std.specs.Prelude.{◌≡◌, true, List, ℕ, ◌≤◌, length};
 ghost use Rattle.basis.specs.Answer.{given, seen};
 ghost use Rattle.basis.specs.Room.{room_after};

@@ -1,4 +1,6 @@
 // A set of addresses below 16,384 whose lowest is found in a few words, however many it holds.
+#![tactic(auto)]
+
 ghost use Rattle.std.specs.Prelude.{◌≡◌, ◌≢◌, ℕ, ◌+◌, ◌*◌, ◌/◌, ◌<◌, ◌≤◌, length, get_or};
 ghost use Rattle.pending.specs.Sets.{digit, held, Joined, Gone, First, Topped, Taken};
 

@@ -1,4 +1,6 @@
 // The push of one to four values, C0 to FF.
+#![tactic(auto)]
+
 ghost use Rattle.std.specs.Prelude.{◌≡◌, List, [], ◌∷◌, ℕ, ◌+◌, ◌≤◌, ◌<◌, length};
 ghost use Rattle.basis.specs.Number.{number_at};
 ghost use Rattle.decoder.specs.Refusals.{Inside};

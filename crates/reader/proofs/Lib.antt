@@ -1,3 +1,2 @@
 -- The laws of `reader`.
 pub mod Turns
-pub mod Operands

@@ -1,4 +1,6 @@
 // A reader: it keeps hold of a lent program, and gives one instruction at a time.
+#![tactic(auto)]
+
 ghost use Rattle.std.specs.Prelude.{◌≡◌};
 ghost use Rattle.decoder.specs.Decode.{decode_of, decoded_answer};
 ghost use Rattle.reader.specs.Turn.{turn_of, turn_answer};
@@ -6,14 +8,14 @@ ghost use Rattle.reader.specs.Turn.{turn_of, turn_answer};
 use decoder::Decoded;
 
 // A program, and the address of the next instruction to be read.
-#[derive(Drop)]
+#[derive(Clone, Copy)]
 pub struct Reader<'a> {
     pub program: &'a [u8],
     pub at: usize,
 }
 
 // What a reader gives: the decoder's answer at its address, and the address where it then stands.
-#[derive(Drop)]
+#[derive(Clone, Copy)]
 pub struct Turn {
     pub answer: Decoded,
     pub at: usize,

@@ -1,4 +1,6 @@
 // The report on a rule pack: what the verifier says of each program, a line for each, written into a lent room.
+#![tactic(auto)]
+
 ghost use Rattle.std.specs.Prelude.{◌≡◌, ◌+◌, ◌≤◌, length};
 ghost use Rattle.basis.specs.Answer.{seen};
 ghost use Rattle.basis.specs.Room.{room_after};

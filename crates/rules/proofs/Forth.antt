@@ -2,7 +2,7 @@
 -- Assumes nothing.
 use Prim.Native.Nat.{ℕ, ◌+◌, ◌≤◌, ◌<◌}
 use native.Mathlib.Omega.{arith}
-use mathlib.Core.Path.{◌≡◌, refl, sym, ◌∙◌}
+use mathlib.Core.Path.{◌≡◌, refl, sym, ◌∙◌, subst}
 use mathlib.Core.List.{List, [], ◌∷◌, ◌++◌, append_assoc}
 use lib.ListN.{length, take, drop, length-append}
 use lib.Seq.{drop-drop, drop_at, take-append_seam, drop-append_seam}
@@ -61,7 +61,8 @@ entries-forth p q least at (r ∷ rs) (cons l a k) h =
     let y : (p ++ b) ++ (rest ++ q) ≡ p ++ (b ++ (rest ++ q)) = simp append_assoc in
     let z : length (p ++ b) ≡ length p + 8 = length-append p b ∙ rw (length-entry e) in
     let ih = rw (y, z) at (entries-forth (p ++ b) q (r.tag + 1) (at + length r.body) rs k (omega arith)) in
-    rw (x, entry-forth p (rest ++ q) e f, ih)
+    let P : List ℕ → Type 0 = λ s. entries_from s (length p) (length (r ∷ rs)) ≡ entries_for at (r ∷ rs) in
+    subst P (sym x) (rw (entry-forth p (rest ++ q) e f, ih))
 
 module _ (rs : List Rule) (g : Packable rs) where
   kept : Kept 0 rs

@@ -1,4 +1,6 @@
 // The program whose body is whole gets its verdict: the verifier's answer in three lent cells.
+#![tactic(auto)]
+
 ghost use Rattle.std.specs.Prelude.{◌≡◌, ◌+◌, ◌≤◌, ◌<◌, length};
 ghost use Rattle.std.proofs.lemmas.List.Edits.{sets};
 ghost use Rattle.verifier.specs.Verify.{judged_in};

@@ -1,4 +1,6 @@
 // The shapes of the 256 first bytes as one table: length, values taken, values pushed. Decoder and verifier go by it.
+#![tactic(auto)]
+
 ghost use Rattle.std.specs.Prelude.{◌≡◌};
 ghost use Rattle.shapes.specs.Shapes.{shape_of, shape_rows};
 

@@ -1,4 +1,6 @@
 // The operations on the stack alone: each takes its operands, checks 4 and 5, and pushes what it makes of them.
+#![tactic(auto)]
+
 ghost use Rattle.std.specs.Prelude.{◌≡◌, List, [], ◌∷◌, ℕ, ◌≤◌, length};
 ghost use Rattle.isa.specs.Op.{Discard, Swap, Two, TwoNumber, One, Push};
 ghost use Rattle.effects.specs.Act.{done, do_of};

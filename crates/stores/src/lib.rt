@@ -1,4 +1,6 @@
 // Stores: of a at the number in the code, of b at a and that number, of c at a and b. Each takes its operands, checks 4 and 6, and pushes what it stored.
+#![tactic(auto)]
+
 ghost use Rattle.std.specs.Prelude.{◌≡◌, List, ℕ, ◌+◌, ◌-◌, ◌%◌, ◌^◌, ◌≤◌, ◌<◌, length};
 ghost use Rattle.isa.specs.Op.{Store};
 ghost use Rattle.effects.specs.Memory.{operand_of};

@@ -1,5 +1,7 @@
 // The push of one to four values by its first byte: an arm for each of the thirty from C0 up that has no flag of an absent value, so that
 // count and flags are known as the arm is compiled. Written by tools/dispatch.
+#![tactic(auto)]
+
 ghost use Rattle.std.specs.Prelude.{◌≡◌, List, ℕ, ◌≤◌, length};
 ghost use Rattle.decoder.specs.Refusals.{Inside};
 ghost use Rattle.effects.specs.Act.{done, act_of};

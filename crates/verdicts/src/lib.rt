@@ -1,4 +1,6 @@
 // One line of a report, written into a lent room: of an entry of a pack, or of a refused pack.
+#![tactic(auto)]
+
 ghost use Rattle.std.specs.Prelude.{◌≡◌, ◌+◌, ◌≤◌, length};
 ghost use Rattle.text.specs.Put.{Put};
 ghost use Rattle.verifier.specs.Verify.{names, judged_in};

@@ -1,4 +1,6 @@
 // The verifier: walks the paths of a program and writes the depth of each address that they meet, or says what is wrong with it.
+#![tactic(auto)]
+
 ghost use Rattle.std.specs.Prelude.{◌≡◌, ◌<◌, ◌≤◌, length, replicate};
 ghost use Rattle.shapes.specs.Shapes.{shape_rows};
 ghost use Rattle.verifier.specs.Verify.{walk_of, on_walk, verify_of, judged_in};

@@ -1,0 +1,14 @@
+-- `dispatch::load_number_byte` meets its contract: the byte is there or cut, and the operation does the rest. Written by tools/dispatch.
+-- Assumes nothing.
+use borrow.Author.Rules.{rules}
+use borrow.Author.Tests.{lt-ltb, le-ltb}
+use Rattle.dispatch.specs.First.{byte_of}
+use Rattle.dispatch.proofs.numbered.load_number_byte.Goals as goal
+
+pub returns-then-program-address : goal.returns-then-program-address
+unfolding byte_of
+returns-then-program-address c = rw (lt-ltb _ _ c.if-program-address.true)
+
+pub returns : goal.returns
+unfolding byte_of
+returns c = rw (le-ltb _ _ c.if-program-address.false, ← c.byte_after-x.ensures) (c.load_number.ensures c.args.program.now)

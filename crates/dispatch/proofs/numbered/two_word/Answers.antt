@@ -1,0 +1,14 @@
+-- `dispatch::two_word` meets its contract: the word is there or cut, and the operation does the rest. Written by tools/dispatch.
+-- Assumes nothing.
+use borrow.Author.Rules.{rules}
+use borrow.Author.Tests.{lt-ltb, le-ltb}
+use Rattle.dispatch.specs.First.{word_of}
+use Rattle.dispatch.proofs.numbered.two_word.Goals as goal
+
+pub returns-then-program-address : goal.returns-then-program-address
+unfolding word_of
+returns-then-program-address c = λ m. rw (lt-ltb _ _ c.if-program-address.true)
+
+pub returns : goal.returns
+unfolding word_of
+returns c = λ m. rw (le-ltb _ _ c.if-program-address.false, ← c.word_after-x.ensures) (c.two_number.ensures c.args.program.now m)

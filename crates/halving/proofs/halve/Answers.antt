@@ -1,0 +1,19 @@
+-- `halving::halve` meets its contract.
+-- Assumes nothing.
+use Prim.Native.Nat.{◌+◌, ◌-◌, ◌*◌, ◌/◌, ◌≤◌, ◌<◌}
+use native.Mathlib.Omega.{arith}
+use mathlib.Core.Path.{◌≡◌, refl}
+use lib.ListN.{length}
+use Rattle.halving.specs.Halving.{halved}
+use Rattle.halving.proofs.Spans.{entry_in, left-next}
+use Rattle.halving.proofs.Steps.{halved-next, halved-end}
+use Rattle.halving.proofs.halve.Goals as goal
+
+pub loop-more-preserved : goal.loop-more-preserved
+loop-more-preserved c = let l = c.loop-more in
+    let a = c.args in
+    let half = l.left / 2 in (
+      omega arith,
+      left-next a.stride l.at l.left half (l.left - half) (length a.s.now) a.s.now a.sought _ c.later-at.result (omega arith) (omega arith) l.invariant.1 c.later-at.ensures,
+      halved-next l.more a.stride a.s.now a.sought l.at l.left c.later-at.result _ (omega arith) l.invariant.2 c.later-at.ensures,
+    )

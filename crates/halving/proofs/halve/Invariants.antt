@@ -1,0 +1,16 @@
+-- `halving::halve` meets its contract.
+-- Assumes nothing.
+use Prim.Native.Nat.{◌+◌, ◌-◌, ◌*◌, ◌/◌, ◌≤◌, ◌<◌}
+use native.Mathlib.Omega.{arith}
+use mathlib.Core.Path.{◌≡◌, refl}
+use lib.ListN.{length}
+use Rattle.halving.specs.Halving.{halved}
+use Rattle.halving.proofs.Spans.{entry_in, left-next}
+use Rattle.halving.proofs.Steps.{halved-next, halved-end}
+use Rattle.halving.proofs.halve.Given as goal
+
+abbrev pub invariant-loop-more : goal.invariant-loop-more
+invariant-loop-more l = (0 < l.left) × (l.at + l.stride * l.left ≤ length l.s) × (halved l.more l.stride l.s l.sought l.at l.left ≡ halved l.rounds l.stride l.s l.sought l.from l.many)
+
+abbrev pub decreases-loop-more : goal.decreases-loop-more
+decreases-loop-more l = l.more

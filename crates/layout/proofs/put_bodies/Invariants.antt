@@ -1,0 +1,16 @@
+-- `layout::put_bodies` meets its contract.
+-- Assumes nothing.
+use Prim.Native.Nat.{◌+◌, ◌-◌, ◌≤◌}
+use native.Mathlib.Omega.{arith}
+use mathlib.Core.Path.{◌≡◌, refl}
+use lib.Seq.{sets}
+use lib.ListN.{length, drop, length-set, drop_of_length-le}
+use borrow.Author.Rules.{rules}
+use Rattle.layout.proofs.Puts.{bodies-next}
+use Rattle.layout.proofs.put_bodies.Given as goal
+
+abbrev pub invariant-loop-i : goal.invariant-loop-i
+invariant-loop-i l = (l.i ≤ length l.bodies) × (l.at ≡ l.start + l.i) × (length l.room ≡ length l.initial.room) × (sets l.room l.at (drop l.i l.bodies) ≡ sets l.initial.room l.start l.bodies)
+
+abbrev pub decreases-loop-i : goal.decreases-loop-i
+decreases-loop-i l = length l.bodies - l.i
