@@ -49,6 +49,11 @@ def reached(top=TOP):
     return {name: below(name) for name in direct}
 
 
+def static(top=TOP):
+    """The names of the static libraries, by crates.txt."""
+    return set(re.findall(r"^(\w+) staticlib:", (top / "crates.txt").read_text(encoding="utf-8"), re.MULTILINE))
+
+
 def reads_or_prints(folder):
     """Whether a crate names what only programs use: files, input, output, the environment, the clock, or the handle that `main` gets."""
     return any(OUTSIDE.search(re.sub(r"//.*", "", file.read_text(encoding="utf-8"))) for file in folder.glob("src/**/*.rt"))

@@ -145,13 +145,13 @@ class Source:
         """The items up to a closer, which is read too: the end of the text, or the bracket that ends a block."""
         read = []
         while True:
+            self.of_file()
             if self.peek() == closer:
                 self.token()
                 return tuple(read)
             read.append(self.item(within))
 
     def item(self, within):
-        self.of_file()
         about = self.comment()
         attributes = []
         while self.peek() == "#":

@@ -31,9 +31,9 @@ def run(before, head):
 
 
 def clang():
-    """The kit's, which compiles for x86-64 on every processor."""
-    kit = os.environ.get("RATTLE_HOME") or pathlib.Path(shutil.which("rt")).resolve().parent.parent
-    return pathlib.Path(kit) / "on" / platform.machine() / "toolchain" / "bin" / "clang"
+    """The kit's, which compiles for x86-64."""
+    page = subprocess.run(["rt", "doc"], check=True, capture_output=True, text=True).stdout.strip()
+    return pathlib.Path(page).parent / "toolchain" / "bin" / "clang"
 
 
 class Placed(unittest.TestCase):
