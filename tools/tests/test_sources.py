@@ -34,11 +34,13 @@ class Case(unittest.TestCase):
 
 
 SOURCE = """// A source.
+#![tactic(auto)]
+
 ghost use lib.ListN.{length, take as taken} -- ; not yet
     ;
 use other::Given;
 mod inner;
-pub mod open_one { pub fn within() -> u8 ensures { λ r. ⌜ r ≡ 1 ⌝ } { 1 } }
+pub mod open_one { pub fn within() -> u8 ensures { result ≡ 1 } { 1 } }
 pub use inner::{Shown, shown as given};
 
 // A text with a brace, and one in a comment: {
@@ -54,10 +56,10 @@ pub fn long<'a>(
 ) -> &'a [u8]
 where
     'a: 'a,
-    requires { ⌜ length (now first) ≤ 2 ⌝ -- }
+    requires { length first.old ≤ 2 -- }
     }
-    ensures told { λ r. {- } -} ⌜ taken r ≡ length (now (first .exit)) ⌝ }
-    ensures { λ _. ⌜ true ⌝ }
+    ensures told { {- } -} taken result ≡ length first.new }
+    ensures well { true }
 {
     let brace = '{';
     if second == '}' { return first; } /* { /* } */ */
@@ -67,25 +69,27 @@ where
 INNER = """pub struct Shown { pub at: usize, hidden: u8 }
 impl Shown {
     pub fn at(&mut self) -> usize
-        ensures { λ r. ⌜ r ≡ 0 ⌝ }
+        ensures { result ≡ 0 }
     { 0 }
     fn own(self) {}
 }
 pub fn shown() {}
 pub fn unseen() {}
-#[no_mangle]
+#[unsafe(no_mangle)]
 pub extern "C" fn khx_seen(n: usize) -> usize
-    requires { ⌜ n ≡ 7 ⌝ }
-    ensures { λ r. ⌜ r ≡ n ⌝ }
+    requires { n ≡ 7 }
+    ensures { result ≡ n }
 { n }
 """
-METHOD = """ghost use lib.ListN.{length};
+METHOD = """#![tactic(auto)]
+ghost use lib.ListN.{length};
 pub struct S { a: u8 }
 impl S {
     // One.
+    #[tactic(auto, using(crate::proofs::A::one))]
     pub fn f(self, n: u8) -> u8
-        ensures { λ r. ⌜ r ≡ length n ⌝ }
-        ensures { λ r. ⌜ r ≡ n ⌝ }
+        ensures long { result ≡ length n }
+        ensures same { result ≡ n }
     { n }
 }
 """
@@ -94,8 +98,8 @@ const N: u8 = 3;
 
 // Twice.
 pub fn f(n: u8) -> u8
-    requires { ⌜ n ≡ 1 ⌝ }
-    ensures { λ r. ⌜ r ≡ n ⌝ }
+    requires { n ≡ 1 }
+    ensures { result ≡ n }
 {
     n + 0
 }
@@ -130,9 +134,9 @@ class Sources(Case):
     def test_function(self):
         long = self.shown["one::long"]
         self.assertEqual(long.item.about, "// Of two lines.\n// The second.")
-        self.assertEqual([clause.word for clause in long.item.clauses], ["requires", "ensures told", "ensures"])
-        self.assertEqual(long.item.clauses[0].text, "⌜ length (now first) ≤ 2 ⌝")
-        self.assertEqual(long.item.clauses[1].text, "λ r. ⌜ taken r ≡ length (now (first .exit)) ⌝")
+        self.assertEqual([clause.word for clause in long.item.clauses], ["requires", "ensures told", "ensures well"])
+        self.assertEqual(long.item.clauses[0].text, "length first.old ≤ 2")
+        self.assertEqual(long.item.clauses[1].text, "taken result ≡ length first.new")
         self.assertNotIn("//", long.item.text)
         self.assertEqual(long.words, {"length": "lib.ListN", "taken": "lib.ListN.take"})
         self.assertEqual(long.types["Given"], "other")
@@ -143,10 +147,14 @@ class Sources(Case):
                 rattle.items(text, "here")
 
     def test_libraries(self):
-        """What stands on the kit's libraries for programs, through another crate too, is no library for hosts."""
-        top = self.repository({f"{name}/src/lib.rt": "// None.\n" for name in ("one", "two", "three")})
-        (top / "crates.txt").write_text("# crates\none:\ntwo: one io libc # programs\nthree: two\n", encoding="utf-8")
-        self.assertEqual([folder.name for folder in crates.libraries(top)], ["one"])
+        """What reads or prints, through another crate too, is no library for hosts."""
+        lines = "# crates\none:\nface staticlib: one\ntwo: one # programs\nthree: two\n"
+        for used, libraries in (("use std::io;", ["face", "one"]), ("use std::{cmp, fs};", ["face", "one"]), ("fn f(rt: HostRuntime) {}", ["face", "one"]),
+                                ("// std::io", ["face", "one", "three", "two"]), ("use std::num;", ["face", "one", "three", "two"])):
+            top = self.repository({f"{name}/src/lib.rt": used + "\n" if name == "two" else "// None.\n" for name in ("one", "two", "three", "face")})
+            (top / "crates.txt").write_text(lines, encoding="utf-8")
+            self.assertEqual([folder.name for folder in crates.libraries(top)], libraries, msg=used)
+            self.assertEqual(crates.static(top), {"face"})
 
     def test_lost_file(self):
         with self.assertRaises(rattle.Unread):
@@ -161,8 +169,8 @@ class Promises(Case):
         return command("promises").page(self.public({"one/src/lib.rt": text}), set())
 
     def test_requires(self):
-        exported = '#[no_mangle]\npub extern "C" fn f(n: u8) -> u8\n    requires { ⌜ n ≡ 7 ⌝ }\n    ensures { λ r. ⌜ r ≡ n ⌝ }\n{ n }\n'
-        public = exported.replace('#[no_mangle]\n', "").replace('extern "C" ', "")
+        exported = '#[unsafe(no_mangle)]\npub extern "C" fn f(n: u8) -> u8\n    requires { n ≡ 7 }\n    ensures { result ≡ n }\n{ n }\n'
+        public = exported.replace('#[unsafe(no_mangle)]\n', "").replace('extern "C" ', "")
         self.assertEqual(len(self.wrong(exported)), 1)
         self.assertEqual(len(self.wrong(exported, ["one::f"])), 1)
         self.assertEqual(len(self.wrong(public)), 1)
@@ -172,18 +180,19 @@ class Promises(Case):
 
     def test_no_promise(self):
         self.assertEqual(len(self.wrong("pub fn f() {}\n")), 1)
-        self.assertEqual(len(self.wrong("pub fn f(a: &mut [u8]) ensures { λ r. ⌜ now (a .entry) ≡ now (a .entry) ⌝ } {}\n")), 1)
-        self.assertEqual(self.wrong("pub fn f(a: &mut [u8]) ensures { λ r. ⌜ now (a .exit) ≡ now (a .entry) ⌝ } {}\n"), [])
+        for ensured, wrong in (("a.old ≡ a.old", 1), ("b.a.new ≡ a.old", 1), ("a.newer ≡ a.old", 1), ("a.new ≡ a.old", 0), ("length (a.new) ≡ 1", 0), ("«a».new ≡ a.old", 0)):
+            self.assertEqual(len(self.wrong(f"pub fn f(a: &mut [u8]) ensures {{ {ensured} }} {{}}\n")), wrong, msg=ensured)
 
     def test_changes_show(self):
         page = self.page(METHOD)
         for old, new in (
-            ("r ≡ n", "n ≡ n"), ("        ensures { λ r. ⌜ r ≡ n ⌝ }\n", ""), ("n: u8)", "n: u16)"), ("a: u8", "a: u16"),
+            ("result ≡ n", "n ≡ n"), ("        ensures same { result ≡ n }\n", ""), ("n: u8)", "n: u16)"), ("a: u8", "a: u16"), ("ensures same", "ensures it"),
             ("lib.ListN", "other.ListN"), ("    pub fn f", "    fn f"),
         ):
             self.assertIn(old, METHOD)
             self.assertNotEqual(page, self.page(METHOD.replace(old, new)), msg=new)
-        for old, new in (("{ n }", "{ n + 0 }"), ("ensures { λ r. ⌜ r ≡ length n ⌝ }", "ensures {\n            λ r. ⌜ r ≡ length n ⌝\n        }")):
+        for old, new in (("{ n }", "{ n + 0 }"), ("ensures long { result ≡ length n }", "ensures long {\n            result ≡ length n\n        }"),
+                         ("    #[tactic(auto, using(crate::proofs::A::one))]\n", ""), ("#![tactic(auto)]\n", "")):
             self.assertIn(old, METHOD)
             self.assertEqual(page, self.page(METHOD.replace(old, new)), msg=new)
 
@@ -229,8 +238,8 @@ class Pages(Case):
 
     def test_theorems(self):
         said = command("pages").said_of_theorems
-        self.assertEqual(list(said("by `decodeOf`, `list-max` and `jump-if`, the crate `isa`")), [])
-        self.assertEqual(list(said("by `decodesOf` and `list-least`")), ["`decodesOf` is declared nowhere", "`list-least` is declared nowhere"])
+        self.assertEqual(list(said("by `decode_of`, `list-max` and `jump-if`, the crate `isa`")), [])
+        self.assertEqual(list(said("by `decodes_of`, `decodeOf` and `list-least`")), [f"`{name}` is declared nowhere" for name in ("decodeOf", "decodes_of", "list-least")])
 
 
 class Edits(Case):
@@ -279,7 +288,7 @@ class Edits(Case):
         top = self.repository({"one/src/lib.rt": BODIES, "two/src/lib.rt": "// None.\n", "two/specs/A.antt": "a = 1\n", "one/specs/A.antt": "a = 1\n"})
         for crate, pairs, good in (
             ("one", [("src/lib.rt", "    n + 0", "    n + 1")], True), ("one", [("src/lib.rt", "u8 = 3", "u8 = 4")], True),
-            ("one", [("src/lib.rt", "r ≡ n", "r ≡ r")], False), ("one", [("src/lib.rt", "n ≡ 1", "n ≡ 2")], False),
+            ("one", [("src/lib.rt", "result ≡ n", "result ≡ result")], False), ("one", [("src/lib.rt", "n ≡ 1", "n ≡ 2")], False),
             ("one", [("src/lib.rt", "(n: u8)", "(n: u16)")], False), ("one", [("src/lib.rt", "// Twice.", "// Once.")], False),
             ("one", [("src/lib.rt", "n", "m")], False), ("one", [("specs/A.antt", "a = 1", "a = 2")], False),
             ("one", [], False), ("two", [("specs/A.antt", "a = 1", "a = 2")], True), ("two", [("src/lib.rt", "None", "No")], False),
