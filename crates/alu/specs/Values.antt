@@ -1,5 +1,5 @@
 -- The value operations: "Values are 16 bits, arithmetic is modulo 65,536".
-use Rattle.std.specs.Prelude.{ℕ, ◌+◌, ◌-◌, ◌*◌, ◌/◌, ◌%◌, ◌^◌, Bool, true, false, not, leb, ltb, eqb}
+use Rattle.std.specs.Prelude.{ℕ, ◌+◌, ◌-◌, ◌*◌, ◌/◌, ◌%◌, ◌^◌, Bool, not, leb, ltb, eqb}
 use Rattle.std.specs.Int.Bits.{bit_and, bit_or, bit_xor}
 use Rattle.basis.specs.Pick.{pick}
 use Rattle.alu.specs.declared.Pair.{Pair}

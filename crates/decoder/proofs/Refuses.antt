@@ -20,7 +20,7 @@ use Rattle.forms.specs.Form.{form_of, code_of, length_of, limit_in}
 use Rattle.forms.specs.declared.Form.{Form}
 use Rattle.forms.specs.declared.Form.TheVariants.{Plain, Byte, Shift, Word, Short, Values, Illegal}
 use Rattle.decoder.specs.Decode.{Reading, number_in, instruction_in, head_of, decode_of}
-use Rattle.decoder.specs.Refusals.{Inside, Why, over-size, past_end, illegal-first, cut, illegal-shift}
+use Rattle.decoder.specs.Refusals.{Inside, Why, over_size, past_end, illegal_first, cut, illegal_shift}
 
 -- a number at or over its limit is that of a shift, or of a form that admits no number
 over : (f : Form) (s : List ℕ) → Bytes s → limit_in f ≤ number_in f s → (f ≡ Illegal → ⊥) → (f ≡ Shift) × (16 ≤ get_or s 1 0)
@@ -76,7 +76,7 @@ refusal-why p at k h e = go (ltb 16384 (length p)) (leb (length p) at) refl refl
         i = record { size = s; inside = l; byte = refl }
 
         by : (t u w : Bool) → eqb (length_of b) 0 ≡ t → ltb (length p - at) (length_of b) ≡ u → ltb (number_in f (drop at p)) (limit_in f) ≡ w → Why p at k
-        by true u w x y z = why p at 2 k (illegal-first i (eqb-true _ _ x)) (rw x at (sym (head_at p at) ∙ d))
+        by true u w x y z = why p at 2 k (illegal_first i (eqb-true _ _ x)) (rw x at (sym (head_at p at) ∙ d))
         by false true w x y z =
             let m = eqb-false (length_of b) 0 x in
             let c = ltb-true (length p - at) (length_of b) y in
@@ -88,19 +88,19 @@ refusal-why p at k h e = go (ltb 16384 (length p)) (leb (length p) at) refl refl
             let o = over f (drop at p) (bytes_drop at p h) (ltb-false _ _ z) (λ q. m (no_length b f refl q)) in
             let n = shift-length b o.0 in
             let g : get_or (drop at p) 1 0 ≡ get_or p (at + 1) 0 = get_or-drop at p 1 0 in
-            why p at 2 k (illegal-shift i o.0 (omega arith) (rw (← g) o.1)) (rw (x, y, z) at (sym (head_at p at) ∙ d))
+            why p at 2 k (illegal_shift i o.0 (omega arith) (rw (← g) o.1)) (rw (x, y, z) at (sym (head_at p at) ∙ d))
 
     go : (t u : Bool) → ltb 16384 (length p) ≡ t → leb (length p) at ≡ u → Why p at k
-    go true u x y = why p at 20 k (over-size (ltb-true _ _ x)) (rw x at e)
+    go true u x y = why p at 20 k (over_size (ltb-true _ _ x)) (rw x at e)
     go false true x y = why p at 1 k (past_end (ltb-false _ _ x) (leb-true _ _ y)) (rw (x, y) at e)
     go false false x y = head (ltb-false _ _ x) (leb-false _ _ y) (rw (x, y) at e)
 
 -- a reason has its refusal
 pub why-refusal : (p : List ℕ) (at k : ℕ) → Why p at k → decode_of p at ≡ refused k
 unfolding decode_of
-why-refusal p at k (over-size h) = rw (lt-ltb _ _ h)
+why-refusal p at k (over_size h) = rw (lt-ltb _ _ h)
 why-refusal p at k (past_end s h) = rw (le-ltb _ _ s, le-leb _ _ h)
-why-refusal p at k (illegal-first i z) =
+why-refusal p at k (illegal_first i z) =
     let q = i.byte in
     let e : length_of (get_or p at 0) ≡ 0 = rw q z in
     rw (le-ltb _ _ i.size, lt-leb _ _ i.inside, head_at p at, eq-eqb _ _ e)
@@ -110,7 +110,7 @@ why-refusal p at k (cut i z c) =
     let l = i.inside in
     let s : length p - at < length_of (get_or p at 0) = rw q (omega arith) in
     rw (le-ltb _ _ i.size, lt-leb _ _ i.inside, head_at p at, ne_eqb _ _ e, lt-ltb _ _ s)
-why-refusal p at k (illegal-shift i f r n) =
+why-refusal p at k (illegal_shift i f r n) =
     let q = i.byte in
     let f' : form_of (code_of (get_or p at 0)) ≡ Shift = rw q f in
     let m = shift-length (get_or p at 0) f' in

@@ -10,8 +10,8 @@ pub record Inside (program : List ℕ) (at b : ℕ) : Type 0 where
   pub byte : get_or program at 0 ≡ b
 
 pub data Why (program : List ℕ) (at : ℕ) : ℕ → Type 0 where
-  over-size : 16384 < length program → Why program at 20
+  over_size : 16384 < length program → Why program at 20
   past_end : length program ≤ 16384 → length program ≤ at → Why program at 1
-  illegal-first : {b : ℕ} → Inside program at b → length_of b ≡ 0 → Why program at 2
+  illegal_first : {b : ℕ} → Inside program at b → length_of b ≡ 0 → Why program at 2
   cut : {b : ℕ} → Inside program at b → 0 < length_of b → length program < at + length_of b → Why program at 3
-  illegal-shift : {b : ℕ} → Inside program at b → form_of (code_of b) ≡ Shift → at + 2 ≤ length program → 16 ≤ get_or program (at + 1) 0 → Why program at 2
+  illegal_shift : {b : ℕ} → Inside program at b → form_of (code_of b) ≡ Shift → at + 2 ≤ length program → 16 ≤ get_or program (at + 1) 0 → Why program at 2

@@ -149,14 +149,14 @@ module _ (program mem mem' : List ℕ) (arg : ℕ → ℕ) (next : ℕ) where
 
 module _ (program : List ℕ) (next : ℕ) (o : Op) (depth : ℕ) (mem mem' cells : List ℕ) where
   alike-fault : (n : ℕ) → Alike o depth cells (done (Fault n 0) mem cells) (done (Fault n 0) mem' cells)
-  alike-fault n = record { same_move = refl; same-cells = refl; same_bytes = λ f q h. absurd (false-true (sym f)) }
+  alike-fault n = record { same_move = refl; same_cells = refl; same_bytes = λ f q h. absurd (false-true (sym f)) }
 
   alike-effect : (e : ℕ) (x y : Effect) → Same (writes_from (operand_of cells depth) o) (writes_count (operand_of cells depth) o) x y
       → Alike o depth cells (on_effect program next o depth mem cells e x) (on_effect program next o depth mem' cells e y)
-  alike-effect e (fails j) (fails k) h = record { same_move = ap (λ (n : ℕ). Fault n 0) h; same-cells = refl; same_bytes = λ f q i. absurd (false-true (sym f)) }
+  alike-effect e (fails j) (fails k) h = record { same_move = ap (λ (n : ℕ). Fault n 0) h; same_cells = refl; same_bytes = λ f q i. absurd (false-true (sym f)) }
   alike-effect e (fails j) (leaves m us) h = absurd h
   alike-effect e (leaves m vs) (fails k) h = absurd h
-  alike-effect e (leaves m vs) (leaves m' us) h = record { same_move = refl; same-cells = ap (λ (ws : List ℕ). pushed cells (depth - taken_of o) ws) h.0; same_bytes = λ f q i. h.1 q i }
+  alike-effect e (leaves m vs) (leaves m' us) h = record { same_move = refl; same_cells = ap (λ (ws : List ℕ). pushed cells (depth - taken_of o) ws) h.0; same_bytes = λ f q i. h.1 q i }
 
   pub do-alike : Agree (reads_from (operand_of cells depth) o) (reads_count (operand_of cells depth) o) mem mem'
       → Alike o depth cells (do_of program next o depth mem cells) (do_of program next o depth mem' cells)

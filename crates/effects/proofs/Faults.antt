@@ -104,4 +104,4 @@ module _ (program : List ℕ) (address depth : ℕ) (mem cells : List ℕ) where
       by : (a : Answer Reading) → is_fault (on_reading program address depth mem cells a).move ≡ true
           → ((on_reading program address depth mem cells a).mem ≡ mem) × ((on_reading program address depth mem cells a).cells ≡ cells)
       by (refused n) h = (refl, refl)
-      by (given r) h = (framed program (address + r.1) (op_of r.0) depth mem cells).fault-keeps h
+      by (given r) h = (framed program (address + r.1) (op_of r.0) depth mem cells).fault_keeps h

@@ -24,7 +24,7 @@ use Rattle.isa.specs.declared.Instruction.{Instruction}
 use Rattle.isa.specs.declared.Route.{Route}
 use Rattle.effects.specs.Memory.{operand_of, pushed, good, copied}
 use Rattle.effects.specs.Effect.{Effect, fails, leaves, place_of, copied_from, routed, effect_of, Going, stays, goes, going_of}
-use Rattle.effects.specs.Act.{Done, done, move_of, on_effect, do_of, act_of}
+use Rattle.effects.specs.Act.{done, move_of, on_effect, do_of, act_of}
 use Rattle.effects.specs.declared.Move.TheVariants.{Fault}
 use Rattle.effects.proofs.Opens.{few, full, opened}
 use Rattle.effects.proofs.Keeps.{Keeps, do-deep}
@@ -154,12 +154,12 @@ module _ (program : List ℕ) (next : ℕ) (o : Op) (depth : ℕ) (mem cells : L
   faulted : (n : ℕ) → Framed program o depth mem cells (done (Fault n 0) mem cells)
   faulted n =
       record {
-        in-range = λ h. absurd (false-true (sym h));
-        fault-keeps = λ h. (refl, refl);
-        data-length = refl;
-        cells-length = refl;
-        data-kept = λ q h. refl;
-        cells-kept = λ q h. refl;
+        in_range = λ h. absurd (false-true (sym h));
+        fault_keeps = λ h. (refl, refl);
+        data_length = refl;
+        cells_length = refl;
+        data_kept = λ q h. refl;
+        cells_kept = λ q h. refl;
       }
 
   abbrev after : ℕ
@@ -176,12 +176,12 @@ module _ (program : List ℕ) (next : ℕ) (o : Op) (depth : ℕ) (mem cells : L
           let s = shown-effect program mem (operand_of cells depth) next mem' vs o e in
           let p = s.pushes in
           record {
-            in-range = λ h. s.inside;
-            fault-keeps = λ h. absurd (going-no-fault _ (going_of (operand_of cells depth) next (way_of o)) h);
-            data-length = k.mem-length;
-            cells-length = k.cells-length;
-            data-kept = s.keeps;
-            cells-kept = λ q h. pushed-out vs cells (depth - taken_of o) q (rw p l) (rw p h);
+            in_range = λ h. s.inside;
+            fault_keeps = λ h. absurd (going-no-fault _ (going_of (operand_of cells depth) next (way_of o)) h);
+            data_length = k.mem-length;
+            cells_length = k.cells_length;
+            data_kept = s.keeps;
+            cells_kept = λ q h. pushed-out vs cells (depth - taken_of o) q (rw p l) (rw p h);
           }
 
   pub framed : Framed program o depth mem cells (do_of program next o depth mem cells)

@@ -33,7 +33,7 @@ depth_in (Fault n e) = 0
 
 pub record Keeps (mem cells : List ℕ) (d : Done) : Type 0 where
   pub mem-length : length d.mem ≡ length mem
-  pub cells-length : length d.cells ≡ length cells
+  pub cells_length : length d.cells ≡ length cells
   pub depth-within : depth_in d.move ≤ length cells
 
 -- the data that an effect leaves
@@ -83,7 +83,7 @@ module _ (program mem : List ℕ) (arg : ℕ → ℕ) (next : ℕ) where
   same_effect op.NoOp = refl
 
 keeps-fault : (n : ℕ) (mem cells : List ℕ) → Keeps mem cells (done (Fault n 0) mem cells)
-keeps-fault n mem cells = record { mem-length = refl; cells-length = refl; depth-within = omega arith }
+keeps-fault n mem cells = record { mem-length = refl; cells_length = refl; depth-within = omega arith }
 
 depth-move : (n e : ℕ) (g : Going) → e ≤ n → depth_in (move_of e g) ≤ n
 depth-move n e stays h = h
@@ -94,7 +94,7 @@ module _ (program : List ℕ) (next : ℕ) (o : Op) (depth : ℕ) (mem cells : L
   keeps-effect e (fails n) h s = keeps-fault n mem cells
   keeps-effect e (leaves mem' vs) h s = record {
     mem-length = s;
-    cells-length = length-pushed vs cells (depth - taken_of o);
+    cells_length = length-pushed vs cells (depth - taken_of o);
     depth-within = depth-move (length cells) e (going_of (operand_of cells depth) next (way_of o)) h;
   }
 

@@ -107,12 +107,12 @@ Out q from n = (q < from) ⊎ (from + n ≤ q)
 -- what was done reached only there: every access that succeeds lies in range, the rest keeps what it held, no memory grows
 -- or shrinks, and "A fault alters only the status"
 pub record Framed (program : List ℕ) (o : Op) (depth : ℕ) (mem cells : List ℕ) (d : Done) : Type 0 where
-  pub in-range : is_fault d.move ≡ false → InRange (operand_of cells depth) program mem o
-  pub fault-keeps : is_fault d.move ≡ true → (d.mem ≡ mem) × (d.cells ≡ cells)
-  pub data-length : length d.mem ≡ length mem
-  pub cells-length : length d.cells ≡ length cells
-  pub data-kept : (q : ℕ) → Out q (writes_from (operand_of cells depth) o) (writes_count (operand_of cells depth) o) → get_or d.mem q 0 ≡ get_or mem q 0
-  pub cells-kept : (q : ℕ) → Out q (length cells - (depth - taken_of o + pushed_of o)) (pushed_of o) → get_or d.cells q 0 ≡ get_or cells q 0
+  pub in_range : is_fault d.move ≡ false → InRange (operand_of cells depth) program mem o
+  pub fault_keeps : is_fault d.move ≡ true → (d.mem ≡ mem) × (d.cells ≡ cells)
+  pub data_length : length d.mem ≡ length mem
+  pub cells_length : length d.cells ≡ length cells
+  pub data_kept : (q : ℕ) → Out q (writes_from (operand_of cells depth) o) (writes_count (operand_of cells depth) o) → get_or d.mem q 0 ≡ get_or mem q 0
+  pub cells_kept : (q : ℕ) → Out q (length cells - (depth - taken_of o + pushed_of o)) (pushed_of o) → get_or d.cells q 0 ≡ get_or cells q 0
 
 -- a place among so many places from another
 abbrev pub Among : ℕ → ℕ → ℕ → Type 0
@@ -126,7 +126,7 @@ pub record Agree (from n : ℕ) (mem mem' : List ℕ) : Type 0 where
 -- what was done over two memories is the same: what became of it, all cells and, where it is no fault, the bytes written
 pub record Alike (o : Op) (depth : ℕ) (cells : List ℕ) (d e : Done) : Type 0 where
   pub same_move : d.move ≡ e.move
-  pub same-cells : d.cells ≡ e.cells
+  pub same_cells : d.cells ≡ e.cells
   pub same_bytes :
       is_fault d.move ≡ false → (q : ℕ) → Among q (writes_from (operand_of cells depth) o) (writes_count (operand_of cells depth) o)
       → get_or d.mem q 0 ≡ get_or e.mem q 0

@@ -1,5 +1,5 @@
 -- Which instructions can be written, their bytes, and what the encoder answers.
-use Rattle.std.specs.Prelude.{ℕ, ◌+◌, ◌*◌, ◌-◌, ◌^◌, Bool, true, false, List, ◌∷◌, ◌++◌, leb, ltb, eqb}
+use Rattle.std.specs.Prelude.{ℕ, ◌+◌, ◌*◌, ◌-◌, ◌^◌, Bool, List, ◌∷◌, ◌++◌, leb, ltb, eqb}
 use Rattle.basis.specs.Pick.{pick, both}
 use Rattle.basis.specs.Answer.{Answer, given, refused}
 use Rattle.basis.specs.Number.{bytes_of}

@@ -46,11 +46,11 @@ module _ (program : List ℕ) (m : Machine) (allowed : Allowed program m) (o : O
   stepped s t x =
       record {
         few = λ h. ap (landed m.state) (s ∙ few program _ o depth m.mem m.cells (rw t h));
-        target-out = λ h k. ap (landed m.state) (s ∙ sym (laws.target-fails (x h) (lt-leb _ _ k)));
-        source-out = λ h k l. ap (landed m.state) (s ∙ sym (laws.source-fails (x h) (le-leb _ _ k) (lt-leb _ _ l)));
+        target_out = λ h k. ap (landed m.state) (s ∙ sym (laws.target-fails (x h) (lt-leb _ _ k)));
+        source_out = λ h k l. ap (landed m.state) (s ∙ sym (laws.source-fails (x h) (le-leb _ _ k) (lt-leb _ _ l)));
         copies = λ h k l.
             let d : depth - 2 ≡ depth - 3 + 1 = omega arith in
-            let v : (arg 0 + arg 2) % 65536 ≡ arg 0 + arg 2 = let q = allowed.data-size in omega arith in
+            let v : (arg 0 + arg 2) % 65536 ≡ arg 0 + arg 2 = let q = allowed.data_size in omega arith in
             rw (d, ← laid source m.mem (arg 0) (arg 1) (arg 2) k l, ← v) (ap (landed m.state) (s ∙ sym (laws.copies (x h) (le-leb _ _ k) (le-leb _ _ l))));
       }
 
@@ -59,7 +59,7 @@ first-is :
     (program : List ℕ) (m : Machine) (code : ℕ) → Bytes program → Allowed program m → m.state.address < length program → get_or program m.state.address 0 ≡ code
     → act_of program m.state.address m.state.depth m.mem m.cells ≡ first_of program m.state.address m.state.depth m.mem m.cells code
 first-is program m code w a h e =
-    act-first program _ _ m.mem m.cells a.program-size h w ∙ ap (first_of program m.state.address m.state.depth m.mem m.cells) e
+    act-first program _ _ m.mem m.cells a.program_size h w ∙ ap (first_of program m.state.address m.state.depth m.mem m.cells) e
 
 pub copies_data : CopiesData
 unfolding CopiesData first_of form_of code_of op_in

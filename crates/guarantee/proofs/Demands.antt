@@ -37,7 +37,7 @@ use Rattle.rules.proofs.Takes.{packable-written}
 use Rattle.rules.proofs.Trips as packs
 use Rattle.rules.proofs.Refuses as packs-refuse
 use Rattle.rules.proofs.Finds as finds
-use Rattle.guarantee.specs.Demands.{IsRefused, HasAnswer, IsStepByStep, NoneAtZero, NoSumWraps, IsRead, IsWrittenAgain, IsReadAgain, RefusesExactly, BytesTellApart, PackIsRead, PackIsWrittenAgain, PackIsReadAgain, PackRefusesExactly, FindsExactly, Early, long-program, many-cells, unlike-map, RefusesEarly, AcceptsExactly, WritesDepths, ShowsRefusals, RunsSafely, Answers}
+use Rattle.guarantee.specs.Demands.{IsRefused, HasAnswer, IsStepByStep, NoneAtZero, NoSumWraps, IsRead, IsWrittenAgain, IsReadAgain, RefusesExactly, BytesTellApart, PackIsRead, PackIsWrittenAgain, PackIsReadAgain, PackRefusesExactly, FindsExactly, Early, long_program, many_cells, unlike_map, RefusesEarly, AcceptsExactly, WritesDepths, ShowsRefusals, RunsSafely, Answers}
 use Rattle.guarantee.specs.Demands.{FaultsByNumber, FaultAltersStatus, ReadsOnlyItsRange, RefusesByNumber, Accepts, ResumesSafely}
 
 pub is-refused : IsRefused
@@ -79,7 +79,7 @@ none_at_zero program m a = allowed-runs 0 program m a ∙ run-used program m 0 0
 
 pub faults-by-number : FaultsByNumber
 unfolding FaultsByNumber
-faults-by-number budget count program m m' a f e = run-faulted-by program budget count m m' a.program-size f (run-told program budget m m' count (sym (allowed-runs budget program m a) ∙ e))
+faults-by-number budget count program m m' a f e = run-faulted-by program budget count m m' a.program_size f (run-told program budget m m' count (sym (allowed-runs budget program m a) ∙ e))
 
 pub fault-alters-status : FaultAltersStatus
 unfolding FaultAltersStatus
@@ -141,9 +141,9 @@ unfolding RefusesEarly
 refuses-early = ((λ program cells depths n h. early program cells depths n h), (λ program cells depths after n e. back program cells depths after n e))
   where
     early : (program : List ℕ) (cells : ℕ) (depths : List ℕ) (n : ℕ) → Early program cells depths n → verify_of program cells depths ≡ (nameless n, depths)
-    early program cells depths n (long-program h) = sym (verdicts.long-program program cells depths h)
-    early program cells depths n (many-cells s h) = sym (verdicts.many-cells program cells depths s h)
-    early program cells depths n (unlike-map s c h) = sym (verdicts.unlike-map program cells depths s c h)
+    early program cells depths n (long_program h) = sym (verdicts.long_program program cells depths h)
+    early program cells depths n (many_cells s h) = sym (verdicts.many_cells program cells depths s h)
+    early program cells depths n (unlike_map s c h) = sym (verdicts.unlike_map program cells depths s c h)
 
     back : (program : List ℕ) (cells : ℕ) (depths after : List ℕ) (n : ℕ) → verify_of program cells depths ≡ (nameless n, after) → Early program cells depths n
     back program cells depths after n e = early-refused program cells depths after n e

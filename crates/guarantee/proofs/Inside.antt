@@ -34,10 +34,10 @@ entries-lie-inside = ((λ s n h. packs.count_most s n h), (λ s index e h. packs
 
 -- one machine after another
 sound-again : {m later last : Machine} → Sound m later → Sound later last → Sound m last
-sound-again p q = record { same_mem = q.same_mem ∙ p.same_mem; same-cells = q.same-cells ∙ p.same-cells; deep = q.deep }
+sound-again p q = record { same_mem = q.same_mem ∙ p.same_mem; same_cells = q.same_cells ∙ p.same_cells; deep = q.deep }
 
 took-sound : (program : List ℕ) (m last : Machine) (k : ℕ) → m.state.depth ≤ length m.cells → Took program m k last → Sound m last
-took-sound program m last k h none = record { same_mem = refl; same-cells = refl; deep = h }
+took-sound program m last k h none = record { same_mem = refl; same_cells = refl; deep = h }
 took-sound program m last (suc k) h (more r f t) = let s = step-sound program m h in sound-again s (took-sound program (step_of program m) last k s.deep t)
 
 ends-sound : (program : List ℕ) (m last m' : Machine) (left : ℕ) → Sound m last → Ends program last left m' → Sound m m'
@@ -50,7 +50,7 @@ unfolding KeepsSizes
 keeps-sizes budget count program m m' a e =
     let t = run-told program budget m m' count (sym (allowed-runs budget program m a) ∙ e) in
     let s = ends-sound program m t.last m' t.left (took-sound program m t.last count a.deep t.took) t.ends in
-    (s.same_mem, s.same-cells, s.deep)
+    (s.same_mem, s.same_cells, s.deep)
 
 pub names-inside : NamesInside
 unfolding NamesInside

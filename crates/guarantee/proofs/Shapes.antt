@@ -26,7 +26,7 @@ use Rattle.isa.specs.declared.Way.{Way}
 use Rattle.isa.specs.declared.Way.TheVariants.{Stop, Next, Jump, Branch, Call, Taken, System, Extension}
 use Rattle.isa.proofs.Codes.{taken-op, pushed-op}
 use Rattle.decoder.specs.Decode.{Reading, number_in, instruction_in, head_of, decode_of}
-use Rattle.decoder.specs.Refusals.{Inside, Why, over-size, past_end, illegal-first, cut, illegal-shift}
+use Rattle.decoder.specs.Refusals.{Inside, Why, over_size, past_end, illegal_first, cut, illegal_shift}
 use Rattle.decoder.proofs.Refuses.{refusal-why, why-refusal}
 use Rattle.shapes.specs.Shapes.{shape_of}
 use Rattle.shapes.specs.declared.Shape.{Shape}
@@ -146,11 +146,11 @@ module _ (program : List ℕ) (a b l t p : ℕ) (bytes : Bytes program) (i : Ins
   says = subst (λ (c : ℕ). Says c l t p) (sym i.byte) w
 
   never : Whole program a l → (k : ℕ) → Why program a k → ⊥
-  never h k (over-size x) = omega (arith, i.size)
+  never h k (over_size x) = omega (arith, i.size)
   never h k (past_end x y) = omega (arith, i.inside)
-  never h k (illegal-first x z) = let e = ap length_of (sym i.byte ∙ x.byte) in omega (arith, w.long, w.some)
+  never h k (illegal_first x z) = let e = ap length_of (sym i.byte ∙ x.byte) in omega (arith, w.long, w.some)
   never h k (cut x y z) = let e = ap length_of (sym i.byte ∙ x.byte) in omega (arith, w.long, h.fits)
-  never h k (illegal-shift x z y m) =
+  never h k (illegal_shift x z y m) =
       h.fine (record { shift = shift_is (get_or program a 0) (bytes a) (ap (λ (c : ℕ). form_of (code_of c)) x.byte ∙ z); wide = m })
 
   whole-read : Whole program a l → (r : Reading) × (decode_of program a ≡ given r) × Rowed r l t p
@@ -166,7 +166,7 @@ module _ (program : List ℕ) (a b l t p : ℕ) (bytes : Bytes program) (i : Ins
   decode-over : a + l ≤ length program → Over program a → decode_of program a ≡ refused 2
   decode-over h o =
       let s = is-shift b (subst (λ (c : ℕ). (c ≡ 0x31) ⊎ (c ≡ 0x32)) i.byte o.shift) in
-      why-refusal program a 2 (illegal-shift i s.0 (omega (arith, s.1, w.long)) o.wide)
+      why-refusal program a 2 (illegal_shift i s.0 (omega (arith, s.1, w.long)) o.wide)
 
   decodes : Decodes program a l t p
   decodes = record { cut = decode-cut; over = decode-over; read = λ h. let z = whole-read h in (z.0, z.1, z.2.0, z.2.1, z.2.2) }
@@ -176,7 +176,7 @@ unfolding DecoderByRow
 decoder-by-row program a b l t p bytes i e = decodes program a b l t p bytes i (row-says b l t p (sym e))
 
 decode-none : (program : List ℕ) (a b : ℕ) → Inside program a b → shape_of b ≡ shape.Illegal → decode_of program a ≡ refused 2
-decode-none program a b i e = why-refusal program a 2 (illegal-first i (illegal-says b (sym e)))
+decode-none program a b i e = why-refusal program a 2 (illegal_first i (illegal-says b (sym e)))
 
 -- a step, by what is read
 module _ (program : List ℕ) (m : Machine) where
@@ -273,15 +273,12 @@ leads_one hs gs e = cc
 
 -- no successor
 none : (b e : ℕ) → In b e [] → ⊥
-none b e x = empty [] x refl
-  where
-    empty : (hs : List Hop) → In b e hs → hs ≡ [] → ⊥
-    empty (h ∷ hs) here q = let z : ◌≡◌ {A = ℕ} 0 1 = cc in omega arith
-    empty (h ∷ hs) (there y) q = let z : ◌≡◌ {A = ℕ} 0 1 = cc in omega arith
+none b e x = elim x [ ]
 
 -- the successors along a way are at its depth
 depths-one : (b e c d : ℕ) → In b e (hop c d ∷ []) → e ≡ d
 depths-one b e c d here = refl
+depths-one b e c d (there x) = absurd (none b e x)
 
 depths-two : (b e c g d : ℕ) → In b e (hop c d ∷ hop g d ∷ []) → e ≡ d
 depths-two b e c g d here = refl

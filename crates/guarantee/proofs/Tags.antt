@@ -18,7 +18,7 @@ use Rattle.pack.specs.Read.{read_of}
 use Rattle.pack.specs.Find.{sought_in, find_of}
 use Rattle.pack.specs.Lookup.{kept_of, lookup_of}
 use Rattle.pack.specs.declared.Entry.{Entry}
-use Rattle.pack.proofs.Sounds.{contents-cut}
+use Rattle.pack.proofs.Sounds.{contents_cut}
 use Rattle.pack.proofs.Tags.{lookup-find}
 use Rattle.pack.proofs.Keeps.{lookup-long, lookup-cut, lookup-halved, halved-kept, given-held, why, because}
 use Rattle.rules.specs.Rules.{contents_for}
@@ -77,7 +77,7 @@ pub refuses-only-no-pack : RefusesOnlyNoPack
 unfolding RefusesOnlyNoPack find_of read_of
 refuses-only-no-pack = (
   (λ s tag h. (sym (lookup-long s tag h), rw (lt-ltb 24576 (length s) h))),
-  (λ s tag n h k. (sym (lookup-cut s tag h n k), rw (le-ltb 24576 (length s) h, ← contents-cut s n k))),
+  (λ s tag n h k. (sym (lookup-cut s tag h n k), rw (le-ltb 24576 (length s) h, ← contents_cut s n k))),
   (λ s tag n h other es r. other (sought-refused tag n es (sym (found s tag es r) ∙ sym (lookup-find s es tag r) ∙ h))),
 )
 

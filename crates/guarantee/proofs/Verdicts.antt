@@ -19,7 +19,7 @@ use Rattle.look.specs.Look.{look_of}
 use Rattle.look.proofs.Shallow.{shallow}
 use Rattle.verifier.specs.Verify.{Judged, good, names, nameless, walk_of, Verified, on_walk, verify_of}
 use Rattle.safety.specs.Sealed.{Sealed}
-use Rattle.guarantee.specs.Demands.{Admissible, Early, long-program, many-cells, unlike-map}
+use Rattle.guarantee.specs.Demands.{Admissible, Early, long_program, many_cells, unlike_map}
 
 pair_one : (a b : Judged) (m n : List ℕ) → ◌≡◌ {A = Verified} (a, m) (b, n) → (a ≡ b) × (m ≡ n)
 pair_one a b m n e = (ap (λ (v : Verified). v.0) e, ap (λ (v : Verified). v.1) e)
@@ -52,10 +52,10 @@ split program cells depths v e = by (ltb 16384 (length program)) (ltb 1024 cells
     by : (t u w : Bool) → ltb 16384 (length program) ≡ t → ltb 1024 cells ≡ u → eqb (length depths) (length program) ≡ w
         → pick t (nameless 20, depths) (pick u (nameless 22, depths) (pick w (on_walk (length program) (walk_of program cells)) (nameless 23, depths))) ≡ v
         → ((n : ℕ) × Early program cells depths n × (v ≡ (nameless n, depths))) ⊎ Walking program cells depths v
-    by true u w x y z q = inl (20, long-program (ltb-true 16384 (length program) x), sym q)
-    by false true w x y z q = inl (22, many-cells (ltb-false 16384 (length program) x) (ltb-true 1024 cells y), sym q)
+    by true u w x y z q = inl (20, long_program (ltb-true 16384 (length program) x), sym q)
+    by false true w x y z q = inl (22, many_cells (ltb-false 16384 (length program) x) (ltb-true 1024 cells y), sym q)
     by false false true x y z q = inr (record { size = ltb-false 16384 (length program) x; few = ltb-false 1024 cells y; alike = eqb-true (length depths) (length program) z }, sym q)
-    by false false false x y z q = inl (23, unlike-map (ltb-false 16384 (length program) x) (ltb-false 1024 cells y) (eqb-false (length depths) (length program) z), sym q)
+    by false false false x y z q = inl (23, unlike_map (ltb-false 16384 (length program) x) (ltb-false 1024 cells y) (eqb-false (length depths) (length program) z), sym q)
 
 -- an accepted program: the walk's marks, and the map
 pub record Marked (program : List ℕ) (cells : ℕ) (depths after : List ℕ) : Type 0 where

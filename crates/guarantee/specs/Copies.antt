@@ -13,8 +13,8 @@ use Rattle.guarantee.specs.Demands.{with_fault}
 pub record Copies (program : List ℕ) (m : Machine) (source : List ℕ) (n a b c : ℕ) : Type 0 where
   -- the faults and their order: 4 "fewer values than are taken", 6 of the target, then the source's
   pub few : m.state.depth < 3 → step_of program m ≡ with_fault 4 m
-  pub target-out : 3 ≤ m.state.depth → length m.mem < a + c → step_of program m ≡ with_fault 6 m
-  pub source-out : 3 ≤ m.state.depth → a + c ≤ length m.mem → length source < b + c → step_of program m ≡ with_fault n m
+  pub target_out : 3 ≤ m.state.depth → length m.mem < a + c → step_of program m ≡ with_fault 6 m
+  pub source_out : 3 ≤ m.state.depth → a + c ≤ length m.mem → length source < b + c → step_of program m ≡ with_fault n m
   -- "all source bytes are read before any is written": the data is what stood before a, then the bytes that stood in the source's range, then
   -- what stood behind the range at a; of the three values taken nothing is left but a + c
   pub copies :

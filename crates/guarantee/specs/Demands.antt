@@ -49,9 +49,9 @@ HasAnswer =
 
 -- The verifier's checks before its walk: what each of its numbers says of a program, cells and a map.
 pub data Early (program : List ℕ) (cells : ℕ) (depths : List ℕ) : ℕ → Type 0 where
-  long-program : 16384 < length program → Early program cells depths 20
-  many-cells : length program ≤ 16384 → 1024 < cells → Early program cells depths 22
-  unlike-map : length program ≤ 16384 → cells ≤ 1024 → length depths ≢ length program → Early program cells depths 23
+  long_program : 16384 < length program → Early program cells depths 20
+  many_cells : length program ≤ 16384 → 1024 < cells → Early program cells depths 22
+  unlike_map : length program ≤ 16384 → cells ≤ 1024 → length depths ≢ length program → Early program cells depths 23
 
 -- "refused by number, before a byte or a state changes", of the verifier: by 20, 22 or 23 exactly where it is the first to apply,
 -- with the map as it was.

@@ -14,20 +14,20 @@ use Rattle.machine.specs.declared.Ran.{Ran}
 use Rattle.machine.specs.declared.Ran.TheVariants.{Came, Refused}
 use Rattle.machine.specs.Machine.{Machine, machine}
 use Rattle.machine.specs.Run.{refused, run_of, outcome_of, ran_outcome}
-use Rattle.machine.specs.Refusals.{Over, program-over, data-over, cells_over, too-deep, Allowed}
+use Rattle.machine.specs.Refusals.{Over, program_over, data_over, cells_over, too_deep, Allowed}
 
 -- a refusal is by the first number that applies, and nothing has changed
 pub over-refused : (budget : ℕ) (program : List ℕ) (m : Machine) (n : ℕ) → Over program m n → outcome_of budget program m ≡ refused n m
 unfolding outcome_of
-over-refused budget program m n (program-over a) = rw (lt-ltb _ _ a)
-over-refused budget program m n (data-over a b) = rw (le-ltb _ _ a, lt-ltb _ _ b)
+over-refused budget program m n (program_over a) = rw (lt-ltb _ _ a)
+over-refused budget program m n (data_over a b) = rw (le-ltb _ _ a, lt-ltb _ _ b)
 over-refused budget program m n (cells_over a b c) = rw (le-ltb _ _ a, le-ltb _ _ b, lt-ltb _ _ c)
-over-refused budget program m n (too-deep a b c d) = rw (le-ltb _ _ a, le-ltb _ _ b, le-ltb _ _ c, lt-ltb _ _ d)
+over-refused budget program m n (too_deep a b c d) = rw (le-ltb _ _ a, le-ltb _ _ b, le-ltb _ _ c, lt-ltb _ _ d)
 
 -- a run that no number refuses takes its steps
 pub allowed-runs : (budget : ℕ) (program : List ℕ) (m : Machine) → Allowed program m → outcome_of budget program m ≡ run_of budget program m 0
 unfolding outcome_of
-allowed-runs budget program m a = rw (le-ltb _ _ a.program-size, le-ltb _ _ a.data-size, le-ltb _ _ a.cells-size, le-ltb _ _ a.deep)
+allowed-runs budget program m a = rw (le-ltb _ _ a.program_size, le-ltb _ _ a.data_size, le-ltb _ _ a.cells_size, le-ltb _ _ a.deep)
 
 -- every run is refused by some number or allowed
 pub over-or-allowed : (program : List ℕ) (m : Machine) → ((n : ℕ) × Over program m n) ⊎ Allowed program m
@@ -35,11 +35,11 @@ over-or-allowed program m = by (ltb 16384 (length program)) (ltb 65535 (length m
   where
     by : (s t u v : Bool) → ltb 16384 (length program) ≡ s → ltb 65535 (length m.mem) ≡ t → ltb 1024 (length m.cells) ≡ u → ltb (length m.cells) m.state.depth ≡ v
         → ((n : ℕ) × Over program m n) ⊎ Allowed program m
-    by true t u v a b c d = inl (20, program-over (ltb-true _ _ a))
-    by false true u v a b c d = inl (21, data-over (ltb-false _ _ a) (ltb-true _ _ b))
+    by true t u v a b c d = inl (20, program_over (ltb-true _ _ a))
+    by false true u v a b c d = inl (21, data_over (ltb-false _ _ a) (ltb-true _ _ b))
     by false false true v a b c d = inl (22, cells_over (ltb-false _ _ a) (ltb-false _ _ b) (ltb-true _ _ c))
-    by false false false true a b c d = inl (24, too-deep (ltb-false _ _ a) (ltb-false _ _ b) (ltb-false _ _ c) (ltb-true _ _ d))
-    by false false false false a b c d = inr (record { program-size = ltb-false _ _ a; data-size = ltb-false _ _ b; cells-size = ltb-false _ _ c; deep = ltb-false _ _ d })
+    by false false false true a b c d = inl (24, too_deep (ltb-false _ _ a) (ltb-false _ _ b) (ltb-false _ _ c) (ltb-true _ _ d))
+    by false false false false a b c d = inr (record { program_size = ltb-false _ _ a; data_size = ltb-false _ _ b; cells_size = ltb-false _ _ c; deep = ltb-false _ _ d })
 
 machine-one : (s s' : State) (d d' c c' : List ℕ) → machine s d c ≡ machine s' d' c' → (s ≡ s') × (d ≡ d') × (c ≡ c')
 machine-one s s' d d' c c' e = (ap (λ (m : Machine). m.state) e, ap (λ (m : Machine). m.mem) e, ap (λ (m : Machine). m.cells) e)

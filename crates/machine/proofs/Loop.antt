@@ -19,7 +19,7 @@ use Rattle.machine.proofs.Runs.{run-stopped, run-used, run-faults, run-steps}
 -- the lengths of the memories, and a depth inside the cells, are kept by a step
 pub record Sound (m m' : Machine) : Type 0 where
   pub same_mem : length m'.mem ≡ length m.mem
-  pub same-cells : length m'.cells ≡ length m.cells
+  pub same_cells : length m'.cells ≡ length m.cells
   pub deep : m'.state.depth ≤ length m'.cells
 
 after-deep : (s : State) (made : Move) (n : ℕ) → s.depth ≤ n → depth_in made ≤ n → (state_after s made).depth ≤ n
@@ -32,17 +32,17 @@ unfolding step_of
 step-sound program m h =
     let a = act_of program m.state.address m.state.depth m.mem m.cells in
     let k = act-deep program m.state.address m.state.depth m.mem m.cells in
-    let l = k.cells-length in
+    let l = k.cells_length in
     record {
       same_mem = k.mem-length;
-      same-cells = l;
+      same_cells = l;
       deep = rw l (after-deep m.state a.move (length m.cells) h k.depth-within);
     }
 
 -- the run from here is the whole run
 pub record Under (program : List ℕ) (budget : ℕ) (start m : Machine) (left : ℕ) : Type 0 where
   pub same_mem : length m.mem ≡ length start.mem
-  pub same-cells : length m.cells ≡ length start.cells
+  pub same_cells : length m.cells ≡ length start.cells
   pub deep : m.state.depth ≤ length m.cells
   pub within : left ≤ budget
   pub on : m.state.status ≡ Running
@@ -72,7 +72,7 @@ module _ (program : List ℕ) (budget : ℕ) (start m m' : Machine) (left : ℕ)
       let s = sound in
       record {
         same_mem = omega (arith, s.same_mem, u.same_mem);
-        same-cells = omega (arith, s.same-cells, u.same-cells);
+        same_cells = omega (arith, s.same_cells, u.same_cells);
         deep = s.deep;
         within = omega (arith, u.within);
         on = r;
@@ -97,7 +97,7 @@ used program budget start m left u l = sym (run-used program m (budget - left) l
 pub begun : (program : List ℕ) (budget : ℕ) (start : Machine) → start.state.depth ≤ length start.cells → start.state.status ≡ Running → Under program budget start start budget
 begun program budget start h r =
     let z : budget - budget ≡ 0 = omega arith in
-    record { same_mem = refl; same-cells = refl; deep = h; within = omega arith; on = r; whole = ap (λ (k : ℕ). run_of budget program start k) z }
+    record { same_mem = refl; same_cells = refl; deep = h; within = omega arith; on = r; whole = ap (λ (k : ℕ). run_of budget program start k) z }
 
 -- a stopped state comes back as it was, and the whole budget with it
 pub rested : (program : List ℕ) (budget : ℕ) (start : Machine) → is_running start.state.status ≡ false → came start (budget - budget) ≡ run_of budget program start 0

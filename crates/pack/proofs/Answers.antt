@@ -8,7 +8,6 @@ use Rattle.basis.proofs.Tests.{given-one}
 use Rattle.pack.specs.Contents.{bodies_answer}
 use Rattle.pack.specs.Read.{checked_answer, listed_answer}
 use Rattle.pack.specs.Find.{found_answer}
-use Rattle.pack.specs.declared.Entry.{Entry}
 use Rattle.pack.specs.declared.Bodies.{Bodies}
 use Rattle.pack.specs.declared.Bodies.TheVariants as bodies
 use Rattle.pack.specs.declared.Checked.{Checked}

@@ -17,7 +17,7 @@ use Rattle.halving.proofs.Finds.{reaches}
 use Rattle.pack.specs.Contents.{first_of, entry_at}
 use Rattle.pack.specs.Read.{count_of, held_of}
 use Rattle.pack.specs.Lookup.{kept_of, halved_of, lookup_of}
-use Rattle.pack.specs.Refusals.{Held, come_to, Why, too_long, contents-cut, no-entries, another-tag, over-cells, over-length, past_end}
+use Rattle.pack.specs.Refusals.{Held, come_to, Why, too_long, contents_cut, no_entries, another_tag, over_cells, over_length, past_end}
 use Rattle.pack.specs.declared.Entry.{Entry}
 use Rattle.pack.proofs.Sounds.{whole-held, held_whole, held-thirty}
 
@@ -150,9 +150,9 @@ kept-why s tag n held h = go (eqb e.tag tag) (ltb 1024 e.cells) (ltb 16384 e.len
     e = come_to s tag
 
     go : (a b c d : Bool) → eqb e.tag tag ≡ a → ltb 1024 e.cells ≡ b → ltb 16384 e.length ≡ c → ltb (length s) (e.offset + e.length) ≡ d → Why s tag n
-    go false b c d p q r t = rw (← refused-one 36 n (rw p at h)) (another-tag held (eqb-false _ _ p))
-    go true true c d p q r t = rw (← refused-one 35 n (rw (p, q) at h)) (over-cells held (eqb-true _ _ p) (ltb-true _ _ q))
-    go true false true d p q r t = rw (← refused-one 35 n (rw (p, q, r) at h)) (over-length held (eqb-true _ _ p) (ltb-true _ _ r))
+    go false b c d p q r t = rw (← refused-one 36 n (rw p at h)) (another_tag held (eqb-false _ _ p))
+    go true true c d p q r t = rw (← refused-one 35 n (rw (p, q) at h)) (over_cells held (eqb-true _ _ p) (ltb-true _ _ q))
+    go true false true d p q r t = rw (← refused-one 35 n (rw (p, q, r) at h)) (over_length held (eqb-true _ _ p) (ltb-true _ _ r))
     go true false false true p q r t = rw (← refused-one 34 n (rw (p, q, r, t) at h)) (past_end held (eqb-true _ _ p) (ltb-false _ _ q) (ltb-false _ _ r) (ltb-true _ _ t))
     go true false false false p q r t = absurd (refused-given n e (sym (rw (p, q, r, t) at h)))
 
@@ -161,8 +161,8 @@ why s tag n h = go (coming s tag)
   where
     go : Coming s tag → Why s tag n
     go (long p) = rw (← refused-one 31 n (lookup-long s tag p ∙ h)) (too_long p)
-    go (cut p q) = rw (← refused-one 30 n (lookup-cut s tag p 30 q ∙ h)) (contents-cut p q)
-    go (empty p q) = rw (← refused-one 36 n (lookup-empty s tag p q ∙ h)) (no-entries p q)
+    go (cut p q) = rw (← refused-one 30 n (lookup-cut s tag p 30 q ∙ h)) (contents_cut p q)
+    go (empty p q) = rw (← refused-one 36 n (lookup-empty s tag p q ∙ h)) (no_entries p q)
     go (entry held) = kept-why s tag n held (lookup_entry s tag held ∙ h)
 
 over-length-kept : (s : List ℕ) (tag : ℕ) (e : Entry) (t : Bool) → ltb 1024 e.cells ≡ t → e.tag ≡ tag → 16384 < e.length → kept_of s tag e ≡ refused 35
@@ -173,9 +173,9 @@ over-length-kept s tag e false p z h = rw (eq-eqb _ _ z, p, lt-ltb _ _ h)
 pub because : (s : List ℕ) (tag n : ℕ) → Why s tag n → lookup_of s tag ≡ refused n
 unfolding kept_of
 because s tag n (too_long p) = sym (lookup-long s tag p)
-because s tag n (contents-cut p q) = sym (lookup-cut s tag p 30 q)
-because s tag n (no-entries p q) = sym (lookup-empty s tag p q)
-because s tag n (another-tag held z) = sym (lookup_entry s tag held) ∙ rw (ne_eqb _ _ z)
-because s tag n (over-cells held z h) = sym (lookup_entry s tag held) ∙ rw (eq-eqb _ _ z, lt-ltb _ _ h)
-because s tag n (over-length held z h) = sym (lookup_entry s tag held) ∙ over-length-kept s tag (come_to s tag) (ltb 1024 (come_to s tag).cells) refl z h
+because s tag n (contents_cut p q) = sym (lookup-cut s tag p 30 q)
+because s tag n (no_entries p q) = sym (lookup-empty s tag p q)
+because s tag n (another_tag held z) = sym (lookup_entry s tag held) ∙ rw (ne_eqb _ _ z)
+because s tag n (over_cells held z h) = sym (lookup_entry s tag held) ∙ rw (eq-eqb _ _ z, lt-ltb _ _ h)
+because s tag n (over_length held z h) = sym (lookup_entry s tag held) ∙ over-length-kept s tag (come_to s tag) (ltb 1024 (come_to s tag).cells) refl z h
 because s tag n (past_end held z few short h) = sym (lookup_entry s tag held) ∙ rw (eq-eqb _ _ z, le-ltb _ _ few, le-ltb _ _ short, lt-ltb _ _ h)

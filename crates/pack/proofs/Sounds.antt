@@ -76,8 +76,8 @@ held-cut-thirty s k h =
 pub held-thirty : (s : List ℕ) (k : ℕ) → held_of s ≡ refused k → k ≡ 30
 held-thirty s k h = (held-cut-thirty s k h).0
 
-pub contents-cut : (s : List ℕ) (k : ℕ) → held_of s ≡ refused k → refused k ≡ contents_of s
-contents-cut s k h = (held-cut-thirty s k h).1
+pub contents_cut : (s : List ℕ) (k : ℕ) → held_of s ≡ refused k → refused k ≡ contents_of s
+contents_cut s k h = (held-cut-thirty s k h).1
 
 pub held-bounds : (s : List ℕ) (n : ℕ) → held_of s ≡ given n → (n ≤ 64) × (first_of n ≤ length s)
 held-bounds s n h = let w = held_whole s n h in (rw (← w.1) w.0.count, rw (← w.1) w.0.room)
@@ -90,7 +90,7 @@ ended-whole s end h = go (held_of s) refl
   where
     go : (a : Answer ℕ) → held_of s ≡ a → Whole s
     go (given n) p = (held_whole s n p).0
-    go (refused k) p = absurd (refused-given k end (contents-cut s k p ∙ h))
+    go (refused k) p = absurd (refused-given k end (contents_cut s k p ∙ h))
 
 -- a pack that is read
 pub record Sound (s : List ℕ) : Type 0 where

@@ -21,10 +21,10 @@ come_to s tag = entry_at s (reached 2 8 s tag (count_of s))
 
 pub data Why (s : List ℕ) (tag : ℕ) : ℕ → Type 0 where
   too_long : 24576 < length s → Why s tag 31
-  contents-cut : length s ≤ 24576 → held_of s ≡ refused 30 → Why s tag 30
-  no-entries : length s ≤ 24576 → held_of s ≡ given 0 → Why s tag 36
-  another-tag : Held s (come_to s tag) → ((come_to s tag).tag ≡ tag → ⊥) → Why s tag 36
-  over-cells : Held s (come_to s tag) → (come_to s tag).tag ≡ tag → 1024 < (come_to s tag).cells → Why s tag 35
-  over-length : Held s (come_to s tag) → (come_to s tag).tag ≡ tag → 16384 < (come_to s tag).length → Why s tag 35
+  contents_cut : length s ≤ 24576 → held_of s ≡ refused 30 → Why s tag 30
+  no_entries : length s ≤ 24576 → held_of s ≡ given 0 → Why s tag 36
+  another_tag : Held s (come_to s tag) → ((come_to s tag).tag ≡ tag → ⊥) → Why s tag 36
+  over_cells : Held s (come_to s tag) → (come_to s tag).tag ≡ tag → 1024 < (come_to s tag).cells → Why s tag 35
+  over_length : Held s (come_to s tag) → (come_to s tag).tag ≡ tag → 16384 < (come_to s tag).length → Why s tag 35
   past_end : Held s (come_to s tag) → (come_to s tag).tag ≡ tag → (come_to s tag).cells ≤ 1024 → (come_to s tag).length ≤ 16384
       → length s < (come_to s tag).offset + (come_to s tag).length → Why s tag 34

@@ -4,7 +4,7 @@ use Prim.Native.Nat.{ℕ, zero, suc, ◌<◌}
 use native.Mathlib.Omega.{arith}
 use native.Mathlib.Nat.{not-suc-le-zero, le_refl}
 use mathlib.Core.Path.{◌≡◌, refl, sym, ap, ap₂, ◌∙◌, subst}
-use mathlib.Core.Logic.{◌⊎◌, ⊎_elim}
+use mathlib.Core.Logic.{⊎_elim}
 use mathlib.Core.Bool.{true, false}
 use mathlib.Core.List.{List, map}
 use lib.Dec.{ltb}
@@ -12,7 +12,7 @@ use lib.ListN.{length, get_or, set, replicate, length-set, length-map, length-re
 use lib.Seq.{get_or-set_same, get_or-set_other}
 use borrow.Author.Tests.{ltb-true, ltb-false}
 use Rattle.basis.proofs.Tests.{false-true, test, same?}
-use Rattle.paths.specs.Paths.{Hop, Outcome, bad, leads, In, there, Met, start, onward, Fine, Shown, empty, refuses, leaves, differs, Mapped}
+use Rattle.paths.specs.Paths.{Hop, Outcome, bad, leads, In, Met, start, onward, Fine, Shown, empty, refuses, leaves, differs, Mapped}
 use Rattle.paths.specs.Walk.{Mark, unmet, due, examined, Walked, accepted, refused, Meeting, kept, broke, Turn, done, more, meets, is_due, lowest, turned, examine, begun, go_on, turn_at, turn, turns, walk, cell_of}
 use Rattle.paths.proofs.Marks.{Says, At, at_one, at-is, at-unmet, unmet-examined, at-move, at-inside, set_same, set_other, set_back, due-examined, ahead, all_ahead, ahead-set, outside, twice, Right, meets-right, Lowest, lowest-is, lowest-one}
 

@@ -1,5 +1,5 @@
 -- The paths of a program, for any rule `look` that says what an address leads to at a depth.
-use Rattle.std.specs.Prelude.{◌≡◌, ◌≢◌, List, [], ◌∷◌, ℕ, ◌<◌, ◌≤◌, length, get_or}
+use Rattle.std.specs.Prelude.{◌≡◌, ◌≢◌, List, ◌∷◌, ℕ, ◌<◌, ◌≤◌, length, get_or}
 
 -- a successor: its address and depth
 pub data Hop : Type 0 where

@@ -16,7 +16,7 @@ use Rattle.forms.specs.Form.{form_of, code_of, count_in, flags_in, length_of}
 use Rattle.forms.specs.declared.Form.TheVariants.{Values}
 use Rattle.isa.specs.Op.{Push, op_of}
 use Rattle.decoder.specs.Decode.{with_values, head_of, decode_of}
-use Rattle.decoder.specs.Refusals.{Inside, illegal-first, cut}
+use Rattle.decoder.specs.Refusals.{Inside, illegal_first, cut}
 use Rattle.decoder.proofs.Refuses.{why-refusal}
 use Rattle.effects.specs.Memory.{pushed}
 use Rattle.effects.specs.Effect.{goes}
@@ -71,7 +71,7 @@ module _ {program : List ℕ} {address b : ℕ} (i : Inside program address b) (
   -- 2
   pub values-illegal : (flags / 2 ^ count ≡ 0 → ⊥) → act_of program address depth mem cells ≡ done (Fault 2 0) mem cells
   unfolding act_of
-  values-illegal f = rw (why-refusal program address 2 (illegal-first i (no_length b h (one-past flags count f))))
+  values-illegal f = rw (why-refusal program address 2 (illegal_first i (no_length b h (one-past flags count f))))
 
   module _ (f : flags / 2 ^ count ≡ 0) where
     long : length_of b ≡ 1 + count + ones flags

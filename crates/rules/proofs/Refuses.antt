@@ -17,28 +17,28 @@ use Rattle.pack.specs.Read.{count_of, entries_of, contents_of, read_of}
 use Rattle.pack.specs.declared.Entry.{Entry}
 use Rattle.pack.proofs.Walks.{from_more, passes}
 use Rattle.pack.proofs.Sounds.{whole-walk}
-use Rattle.rules.specs.Refusals.{entry_in, least_in, due_in, Good, Wrong, not-above, cells_over, length_over, wrong-offset, Whole, GoodBefore, Why, too_long, count_cut, too_many, contents-cut, bad-entry, not-at-end, Right}
+use Rattle.rules.specs.Refusals.{entry_in, least_in, due_in, Good, Wrong, not_above, cells_over, length_over, wrong_offset, Whole, GoodBefore, Why, too_long, count_cut, too_many, contents_cut, bad_entry, not_at_end, Right}
 
 -- what refuses an entry that is wrong, and one that is not
 wrong-refused : (s : List ℕ) (i n : ℕ) → Wrong s i n → refusal_of (least_in s i) (due_in s i) (entry_in s i) ≡ n
 unfolding refusal_of
-wrong-refused s i n (not-above t) = rw (lt-ltb _ _ t)
+wrong-refused s i n (not_above t) = rw (lt-ltb _ _ t)
 wrong-refused s i n (cells_over t c) = rw (le-ltb _ _ t, lt-ltb _ _ c)
 wrong-refused s i n (length_over t l) = by (ltb 1024 (entry_in s i).cells) refl
   where
     by : (b : Bool) → ltb 1024 (entry_in s i).cells ≡ b → refusal_of (least_in s i) (due_in s i) (entry_in s i) ≡ 35
     by true c = rw (le-ltb _ _ t, c)
     by false c = rw (le-ltb _ _ t, c, lt-ltb _ _ l)
-wrong-refused s i n (wrong-offset t c l o) = rw (le-ltb _ _ t, le-ltb _ _ c, le-ltb _ _ l, ne_eqb _ _ o)
+wrong-refused s i n (wrong_offset t c l o) = rw (le-ltb _ _ t, le-ltb _ _ c, le-ltb _ _ l, ne_eqb _ _ o)
 
 good-passes : (s : List ℕ) (i : ℕ) → Good s i → refusal_of (least_in s i) (due_in s i) (entry_in s i) ≡ 0
 good-passes s i g = passes (least_in s i) (due_in s i) (entry_in s i) (record { tag = g.tag; cells = g.cells; length = g.length; offset = g.offset })
 
 wrong-some : (s : List ℕ) (i n : ℕ) → Wrong s i n → n ≡ 0 → ⊥
-wrong-some s i n (not-above t) z = omega arith
+wrong-some s i n (not_above t) z = omega arith
 wrong-some s i n (cells_over t c) z = omega arith
 wrong-some s i n (length_over t l) z = omega arith
-wrong-some s i n (wrong-offset t c l o) z = omega arith
+wrong-some s i n (wrong_offset t c l o) z = omega arith
 
 judge : (s : List ℕ) (i : ℕ) → Good s i ⊎ ((n : ℕ) × Wrong s i n)
 judge s i = by (ltb e.tag (least_in s i)) (ltb 1024 e.cells) (ltb 16384 e.length) (eqb e.offset (due_in s i)) refl refl refl refl
@@ -48,10 +48,10 @@ judge s i = by (ltb e.tag (least_in s i)) (ltb 1024 e.cells) (ltb 16384 e.length
 
     by : (t u v w : Bool) → ltb e.tag (least_in s i) ≡ t → ltb 1024 e.cells ≡ u → ltb 16384 e.length ≡ v → eqb e.offset (due_in s i) ≡ w
         → Good s i ⊎ ((n : ℕ) × Wrong s i n)
-    by true u v w p q r o = inr (32, not-above (ltb-true _ _ p))
+    by true u v w p q r o = inr (32, not_above (ltb-true _ _ p))
     by false true v w p q r o = inr (35, cells_over (ltb-false _ _ p) (ltb-true _ _ q))
     by false false true w p q r o = inr (35, length_over (ltb-false _ _ p) (ltb-true _ _ r))
-    by false false false false p q r o = inr (33, wrong-offset (ltb-false _ _ p) (ltb-false _ _ q) (ltb-false _ _ r) (eqb-false _ _ o))
+    by false false false false p q r o = inr (33, wrong_offset (ltb-false _ _ p) (ltb-false _ _ q) (ltb-false _ _ r) (eqb-false _ _ o))
     by false false false true p q r o = inl (record { tag = ltb-false _ _ p; cells = ltb-false _ _ q; length = ltb-false _ _ r; offset = eqb-true _ _ o })
 
 -- the walk over the entries from an index on
@@ -114,9 +114,9 @@ unfolding read_of contents_of
 why-refusal s n (too_long h) = rw (lt-ltb _ _ h)
 why-refusal s n (count_cut h) = rw (le-ltb 24576 (length s) (omega arith), lt-ltb _ _ h)
 why-refusal s n (too_many l h c) = rw (le-ltb _ _ l, le-ltb _ _ h, lt-ltb _ _ c)
-why-refusal s n (contents-cut h c r) = rw (le-ltb 24576 (length s) (omega arith), le-ltb _ _ h, le-ltb _ _ c, lt-ltb _ _ r)
-why-refusal s n (bad-entry {i = i} w l g b) = rw (le-ltb _ _ w.size, whole_from s w, good-to s i (omega arith) g, wrong-ends s i n l b)
-why-refusal s n (not-at-end w g e) = rw (le-ltb _ _ w.size, whole_from s w, all-good s g, ne_eqb _ _ e)
+why-refusal s n (contents_cut h c r) = rw (le-ltb 24576 (length s) (omega arith), le-ltb _ _ h, le-ltb _ _ c, lt-ltb _ _ r)
+why-refusal s n (bad_entry {i = i} w l g b) = rw (le-ltb _ _ w.size, whole_from s w, good-to s i (omega arith) g, wrong-ends s i n l b)
+why-refusal s n (not_at_end w g e) = rw (le-ltb _ _ w.size, whole_from s w, all-good s g, ne_eqb _ _ e)
 
 -- and nothing lies between.
 pub right-or-why : (s : List ℕ) → Right s ⊎ ((n : ℕ) × Why s n)
@@ -125,17 +125,17 @@ right-or-why s = by (ltb 24576 (length s)) (ltb (length s) 2) (ltb 64 (count_of 
   where
     last : Whole s → GoodBefore s (count_of s) → (t : Bool) → eqb (due_in s (count_of s)) (length s) ≡ t → Right s ⊎ ((n : ℕ) × Why s n)
     last w g true p = inl (record { whole = w; good = g; ends = eqb-true _ _ p })
-    last w g false p = inr (34, not-at-end w g (eqb-false _ _ p))
+    last w g false p = inr (34, not_at_end w g (eqb-false _ _ p))
 
     entries : Whole s → GoodBefore s (count_of s) ⊎ FirstWrong s → Right s ⊎ ((n : ℕ) × Why s n)
     entries w (inl g) = last w g (eqb (due_in s (count_of s)) (length s)) refl
-    entries w (inr f) = inr (f.1, bad-entry {i = f.0} w f.2 f.3 f.4)
+    entries w (inr f) = inr (f.1, bad_entry {i = f.0} w f.2 f.3 f.4)
 
     by : (t u v x : Bool) → ltb 24576 (length s) ≡ t → ltb (length s) 2 ≡ u → ltb 64 (count_of s) ≡ v → ltb (length s) (first_of (count_of s)) ≡ x → Right s ⊎ ((n : ℕ) × Why s n)
     by true u v x p q r o = inr (31, too_long (ltb-true _ _ p))
     by false true v x p q r o = inr (30, count_cut (ltb-true _ _ q))
     by false false true x p q r o = inr (30, too_many (ltb-false _ _ p) (ltb-false _ _ q) (ltb-true _ _ r))
-    by false false false true p q r o = inr (30, contents-cut (ltb-false _ _ q) (ltb-false _ _ r) (ltb-true _ _ o))
+    by false false false true p q r o = inr (30, contents_cut (ltb-false _ _ q) (ltb-false _ _ r) (ltb-true _ _ o))
     by false false false false p q r o =
         let w : Whole s = record { size = ltb-false _ _ p; head = ltb-false _ _ q; count = ltb-false _ _ r; room = ltb-false _ _ o } in
         entries w (good-or-wrong s (count_of s) (omega arith))

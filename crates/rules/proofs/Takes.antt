@@ -43,7 +43,7 @@ cut (t ∷ tags) (c ∷ cells) (l ∷ lengths) bodies = record { tag = t; cells 
 cut-given : (tags cells lengths bodies : List ℕ) → length cells ≡ length tags → length lengths ≡ length tags → length bodies ≡ sum_of lengths
     → PartsOf tags cells lengths bodies (cut tags cells lengths bodies)
 unfolding cut
-cut-given [] [] [] [] p q s = record { same-tags = refl; same-cells = refl; same-lengths = refl; same-bodies = refl }
+cut-given [] [] [] [] p q s = record { same_tags = refl; same_cells = refl; same_lengths = refl; same_bodies = refl }
 cut-given [] [] [] (b ∷ bodies) p q s = absurd (omega arith)
 cut-given [] [] (l ∷ lengths) bodies p q s = absurd (omega arith)
 cut-given [] (c ∷ cells) lengths bodies p q s = absurd (omega arith)
@@ -54,10 +54,10 @@ cut-given (t ∷ tags) (c ∷ cells) (l ∷ lengths) bodies p q s =
     let g = cut-given tags cells lengths (drop l bodies) (omega arith) (omega arith) (omega arith) in
     let k : length (take l bodies) ≡ l = length-take-le l bodies (omega arith) in
     record {
-      same-tags = rw g.same-tags;
-      same-cells = rw g.same-cells;
-      same-lengths = rw (k, g.same-lengths);
-      same-bodies = rw g.same-bodies (take-append-drop l bodies);
+      same_tags = rw g.same_tags;
+      same_cells = rw g.same_cells;
+      same_lengths = rw (k, g.same_lengths);
+      same_bodies = rw g.same_bodies (take-append-drop l bodies);
     }
 
 -- rules over whose entries a walk comes to an end are kept
@@ -85,13 +85,13 @@ written_held tags cells lengths bodies room bytes w h =
     let s = end-sum 0 (first_of (length tags)) tags cells lengths (first_of (length tags) + length bodies) a.cells-like a.lengths-like t.ends in
     let rs = cut tags cells lengths bodies in
     let g = cut-given tags cells lengths bodies a.cells-like a.lengths-like (omega arith) in
-    let n : length rs ≡ length tags = sym (length-map rs (λ (r : Rule). r.tag)) ∙ rw g.same-tags in
+    let n : length rs ≡ length tags = sym (length-map rs (λ (r : Rule). r.tag)) ∙ rw g.same_tags in
     let e : entries_for (first_of (length tags)) rs ≡ laid_of tags cells lengths =
-    sym (laid-for (first_of (length tags)) rs) ∙ rw (g.same-tags, g.same-cells, g.same-lengths) in
-    let u : Words (tags_of rs) = rw g.same-tags w in
+    sym (laid-for (first_of (length tags)) rs) ∙ rw (g.same_tags, g.same_cells, g.same_lengths) in
+    let u : Words (tags_of rs) = rw g.same_tags w in
     let k = ended-kept 0 (first_of (length tags)) (first_of (length tags) + length bodies) rs u (rw e t.ends) in
-    let b : packed rs ≡ bytes = rw (n, e, g.same-bodies) (sym t.same) in
-    let l : length (packed rs) ≤ 24576 = rw (length-packed rs, n, g.same-bodies) t.small in
+    let b : packed rs ≡ bytes = rw (n, e, g.same_bodies) (sym t.same) in
+    let l : length (packed rs) ≤ 24576 = rw (length-packed rs, n, g.same_bodies) t.small in
     record {
       rules = rs;
       parts = g;

@@ -27,10 +27,10 @@ pub record Good (s : List ℕ) (i : ℕ) : Type 0 where
 
 -- what is wrong with it first: "32 tag not above the one before, 35 cells over 1,024 or length over 16,384, 33 wrong offset"
 pub data Wrong (s : List ℕ) (i : ℕ) : ℕ → Type 0 where
-  not-above : (entry_in s i).tag < least_in s i → Wrong s i 32
+  not_above : (entry_in s i).tag < least_in s i → Wrong s i 32
   cells_over : least_in s i ≤ (entry_in s i).tag → 1024 < (entry_in s i).cells → Wrong s i 35
   length_over : least_in s i ≤ (entry_in s i).tag → 16384 < (entry_in s i).length → Wrong s i 35
-  wrong-offset : least_in s i ≤ (entry_in s i).tag → (entry_in s i).cells ≤ 1024 → (entry_in s i).length ≤ 16384 → ((entry_in s i).offset ≡ due_in s i → ⊥) → Wrong s i 33
+  wrong_offset : least_in s i ≤ (entry_in s i).tag → (entry_in s i).cells ≤ 1024 → (entry_in s i).length ≤ 16384 → ((entry_in s i).offset ≡ due_in s i → ⊥) → Wrong s i 33
 
 -- neither 31 nor 30
 pub record Whole (s : List ℕ) : Type 0 where
@@ -47,9 +47,9 @@ pub data Why (s : List ℕ) : ℕ → Type 0 where
   too_long : 24576 < length s → Why s 31
   count_cut : length s < 2 → Why s 30
   too_many : length s ≤ 24576 → 2 ≤ length s → 64 < count_of s → Why s 30
-  contents-cut : 2 ≤ length s → count_of s ≤ 64 → length s < first_of (count_of s) → Why s 30
-  bad-entry : {i n : ℕ} → Whole s → i < count_of s → GoodBefore s i → Wrong s i n → Why s n
-  not-at-end : Whole s → GoodBefore s (count_of s) → (due_in s (count_of s) ≡ length s → ⊥) → Why s 34
+  contents_cut : 2 ≤ length s → count_of s ≤ 64 → length s < first_of (count_of s) → Why s 30
+  bad_entry : {i n : ℕ} → Whole s → i < count_of s → GoodBefore s i → Wrong s i n → Why s n
+  not_at_end : Whole s → GoodBefore s (count_of s) → (due_in s (count_of s) ≡ length s → ⊥) → Why s 34
 
 -- nothing is wrong with the pack
 pub record Right (s : List ℕ) : Type 0 where

@@ -87,10 +87,10 @@ write_rules rs room = write_of (tags_of rs) (cells_of rs) (lengths_of rs) (bodie
 
 -- these lists are the parts of rules
 pub record PartsOf (tags cells lengths bodies : List ℕ) (rs : List Rule) : Type 0 where
-  pub same-tags : tags_of rs ≡ tags
-  pub same-cells : cells_of rs ≡ cells
-  pub same-lengths : lengths_of rs ≡ lengths
-  pub same-bodies : bodies_of rs ≡ bodies
+  pub same_tags : tags_of rs ≡ tags
+  pub same_cells : cells_of rs ≡ cells
+  pub same_lengths : lengths_of rs ≡ lengths
+  pub same_bodies : bodies_of rs ≡ bodies
 
 -- every element is a u16
 abbrev pub Words : List ℕ → Type 0

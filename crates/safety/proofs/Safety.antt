@@ -49,7 +49,7 @@ module _ (program : List ℕ) (cells : ℕ) (map : List ℕ) (s : Sealed program
   unfolding run_of
   run-safe zero m m' k c d l h e = subst (Safe map) (came-one m m' k c e) h
   run-safe (suc n) m m' k c d l h e =
-      by (λ f. run-safe n (step_of program m) m' (k + 1) c (step-sound program m d).deep (let q = (step-sound program m d).same-cells in omega arith) (step-safe m l h) f)
+      by (λ f. run-safe n (step_of program m) m' (k + 1) c (step-sound program m d).deep (let q = (step-sound program m d).same_cells in omega arith) (step-safe m l h) f)
       (is_running m.state.status) (is_faulted (step_of program m).state.status) e
     where
       by : (run_of n program (step_of program m) (k + 1) ≡ came m' c → Safe map m') → (t u : Bool)

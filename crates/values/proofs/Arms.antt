@@ -10,7 +10,7 @@ use borrow.Author.Tests.{eqb-true, ne_eqb}
 use Rattle.basis.specs.Pick.{pick}
 use Rattle.basis.proofs.Tables.{span, inside}
 use Rattle.forms.specs.Form.{form_of, code_of, length_of}
-use Rattle.decoder.specs.Refusals.{Inside, illegal-first}
+use Rattle.decoder.specs.Refusals.{Inside, illegal_first}
 use Rattle.decoder.proofs.Refuses.{why-refusal}
 use Rattle.effects.specs.Act.{done, act_of}
 use Rattle.effects.specs.declared.Move.TheVariants.{Fault}
@@ -52,4 +52,4 @@ pub unarmed :
     {program : List ℕ} {address b : ℕ} → Inside program address b → 192 ≤ b → b < 256 → Past b arms → (depth : ℕ) (mem cells : List ℕ)
     → act_of program address depth mem cells ≡ done (Fault 2 0) mem cells
 unfolding act_of
-unarmed {program} {address} {b} i h l p depth mem cells = rw (why-refusal program address 2 (illegal-first i (no_length b h l p)))
+unarmed {program} {address} {b} i h l p depth mem cells = rw (why-refusal program address 2 (illegal_first i (no_length b h l p)))

@@ -1,6 +1,6 @@
 -- What the loop that walks keeps, from its start to its end, and what falls.
 -- Assumes nothing.
-use Prim.Native.Nat.{ℕ, zero, suc, ◌+◌, ◌-◌, ◌/◌, ◌%◌, ◌<◌, ◌≤◌}
+use Prim.Native.Nat.{ℕ, zero, suc, ◌+◌, ◌/◌, ◌%◌, ◌<◌, ◌≤◌}
 use native.Mathlib.Omega.{arith}
 use native.Mathlib.Nat.{le_of_suc-le-suc, not-suc-le-zero, add-zero}
 use mathlib.Core.Path.{◌≡◌, refl, sym, ap, ◌∙◌, subst}
@@ -11,7 +11,7 @@ use lib.ListN.{length, get_or, set, replicate, length-map, length-replicate, get
 use lib.Seq.{ext_get_or}
 use borrow.Author.Tests.{ne_eqb}
 use Rattle.basis.specs.Pick.{pick}
-use Rattle.paths.specs.Walk.{Mark, unmet, due, examined, accepted, refused, done, is_due, examine, begun, turn, walk, cell_of}
+use Rattle.paths.specs.Walk.{Mark, unmet, due, examined, accepted, refused, done, is_due, examine, begun, turn, cell_of}
 use Rattle.paths.proofs.Marks.{all_ahead}
 use Rattle.paths.proofs.Walks.{Going, going_start, going_on, going-stop, turn-due, turn-none}
 use Rattle.pending.specs.Sets.{digit, held, member, Topped, Taken}

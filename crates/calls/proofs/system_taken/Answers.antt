@@ -7,7 +7,6 @@ use lib.ListN.{length, get_or}
 use native.Mathlib.Nat.{add-zero}
 use borrow.Author.Tests.{eq-eqb, ne_eqb}
 use native.Mathlib.Omega.{arith}
-use borrow.Author.Rules.{rules}
 use Rattle.isa.specs.Op.{Taken}
 use Rattle.isa.specs.declared.Route.TheVariants.{System}
 use Rattle.effects.specs.Effect.{stays}

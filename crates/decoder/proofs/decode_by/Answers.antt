@@ -2,7 +2,6 @@
 -- Assumes nothing.
 use mathlib.Core.Path.{ap, ◌∙◌}
 use borrow.Author.Tests.{lt-ltb, le-ltb, le-leb, lt-leb}
-use borrow.Author.Rules.{rules}
 use Rattle.basis.proofs.Stores.{tail}
 use Rattle.decoder.specs.Decode.{head_of, decode_of}
 use Rattle.decoder.proofs.decode_by.Goals as goal

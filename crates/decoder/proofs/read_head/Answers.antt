@@ -1,7 +1,6 @@
 -- `decoder::read_head` meets its contract: the row says whether an instruction begins here, and how long it is.
 -- Assumes nothing.
 use mathlib.Core.Path.{sym, ◌∙◌}
-use borrow.Author.Rules.{rules}
 use Rattle.shapes.proofs.Looks.{row-says, illegal-says}
 use Rattle.decoder.proofs.Heads.{head-none}
 use Rattle.decoder.proofs.read_head.Goals as goal

@@ -2,8 +2,6 @@
 -- Assumes nothing.
 use mathlib.Core.Path.{refl}
 use native.Mathlib.Omega.{arith}
-use borrow.Author.Rules.{rules}
-use Rattle.forms.proofs.Widths.{width-le}
 use Rattle.decoder.proofs.Heads.{head-cut, head-over, head-number, head-values, head_read}
 use Rattle.decoder.proofs.read_long.Goals as goal
 

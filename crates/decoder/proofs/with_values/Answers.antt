@@ -1,10 +1,8 @@
 -- `decoder::with_values` meets its contract.
 -- Assumes nothing.
-use native.Mathlib.Omega.{arith}
 use Prim.Native.Nat.{◌/◌}
 use lib.ListN.{length}
-use borrow.Author.Rules.{rules}
-use Rattle.decoder.proofs.Heads.{narrow, room, valued}
+use Rattle.decoder.proofs.Heads.{narrow, room}
 use Rattle.decoder.proofs.with_values.Goals as goal
 
 pub number_at-v0-requires : goal.number_at-v0-requires

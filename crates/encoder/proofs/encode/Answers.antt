@@ -2,11 +2,10 @@
 -- Assumes nothing.
 use lib.ListN.{length}
 use mathlib.Core.Bool.{true, false}
-use borrow.Author.Tests.{not-true, not-false, lt-ltb, le-ltb}
+use borrow.Author.Tests.{lt-ltb, le-ltb}
 use Prim.Native.Nat.{◌≤◌, ◌<◌}
 use mathlib.Core.Path.{◌≡◌, sym, ap, ◌∙◌}
 use native.Mathlib.Omega.{arith}
-use borrow.Author.Rules.{rules}
 use Rattle.basis.specs.Answer.{given}
 use Rattle.encoder.specs.Encode.{well_formed, encoded_of, encode_of}
 use Rattle.basis.proofs.Stores.{sets-start}

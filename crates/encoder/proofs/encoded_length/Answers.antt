@@ -1,11 +1,7 @@
 -- `encoder::encoded_length` meets its contract.
 -- Assumes nothing.
-use lib.Count.{ones-le}
 use mathlib.Core.Path.{sym}
-use native.Mathlib.Omega.{arith}
-use borrow.Author.Rules.{rules}
-use Rattle.forms.proofs.Widths.{width-le}
-use Rattle.encoder.proofs.Wells.{well, well-count, well-flags, length-well, own-width}
+use Rattle.encoder.proofs.Wells.{well, length-well, own-width}
 use Rattle.encoder.proofs.encoded_length.Goals as goal
 
 pub returns : goal.returns

@@ -2,8 +2,7 @@
 -- Assumes nothing.
 use mathlib.Core.Path.{◌≡◌, sym, ◌∙◌}
 use native.Mathlib.Omega.{arith}
-use borrow.Author.Rules.{rules}
-use Rattle.forms.specs.declared.Form.TheVariants.{Plain, Byte, Shift, Word, Short, Values, Illegal}
+use Rattle.forms.specs.declared.Form.TheVariants.{Short, Values}
 use Rattle.forms.specs.Form.{form_of}
 use Rattle.encoder.proofs.Wells.{well, well-count, well-flags, count-pos}
 use Rattle.encoder.proofs.first_of.Goals as goal

@@ -1,10 +1,6 @@
 -- `encoder::put_bytes` meets its contract.
 -- Assumes nothing.
-use lib.ListN.{length, length-set}
-use mathlib.Core.Path.{◌∙◌}
-use native.Mathlib.Omega.{arith}
-use borrow.Author.Rules.{rules}
-use Rattle.forms.proofs.Widths.{width-le}
+use lib.ListN.{length}
 use Rattle.encoder.proofs.Wells.{room-first, room-number, room-values, put-encoded}
 use Rattle.encoder.proofs.put_bytes.Goals as goal
 

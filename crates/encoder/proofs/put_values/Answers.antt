@@ -2,7 +2,6 @@
 -- Assumes nothing.
 use Prim.Native.Nat.{◌/◌}
 use native.Mathlib.Omega.{arith}
-use borrow.Author.Rules.{rules}
 use Rattle.forms.proofs.Widths.{value-width-le}
 use Rattle.encoder.proofs.Wells.{put_four}
 use Rattle.encoder.proofs.put_values.Goals as goal

@@ -2,11 +2,9 @@
 -- Assumes nothing.
 use lib.Dec.{ltb}
 use mathlib.Core.Bool.{true, false}
-use borrow.Author.Tests.{not-true, not-false}
 use Prim.Native.Nat.{ℕ, ◌/◌, ◌^◌}
 use mathlib.Core.Path.{ap, ◌∙◌}
 use native.Mathlib.Omega.{arith}
-use borrow.Author.Rules.{rules}
 use Rattle.forms.proofs.Widths.{value-width-le}
 use Rattle.encoder.proofs.Wells.{width-test}
 use Rattle.forms.specs.Form.{width0, width1, width2}

@@ -1,12 +1,11 @@
 -- `encoder::well_formed` meets its contract.
 -- Assumes nothing.
 use mathlib.Core.Bool.{true, false}
-use borrow.Author.Tests.{not-true, not-false, lt-ltb, le-ltb}
+use borrow.Author.Tests.{lt-ltb, le-ltb}
 use Prim.Native.Nat.{◌^◌, ◌≤◌, ◌<◌}
 use mathlib.Core.Path.{◌≡◌}
 use native.Mathlib.Omega.{arith}
-use borrow.Author.Rules.{rules}
-use Rattle.encoder.proofs.Wells.{count-test, count-good-le}
+use Rattle.encoder.proofs.Wells.{count-test}
 use Rattle.forms.specs.Form.{form_of, limit_in}
 use Rattle.encoder.specs.Encode.{count_good, well_formed}
 use Rattle.encoder.proofs.well_formed.Goals as goal

@@ -1,11 +1,8 @@
 -- `branch_taken` meets its contract: each return is one outcome of the operation.
 -- Assumes nothing.
-use Prim.Native.Nat.{◌-◌}
 use mathlib.Core.Path.{sym}
-use lib.ListN.{length}
 use mathlib.Core.Bool.{true, false}
 use native.Mathlib.Omega.{arith}
-use borrow.Author.Rules.{rules}
 use Rattle.flow.proofs.Branches.{taken-few, taken-done}
 use Rattle.flow.proofs.branch_taken.Goals as goal
 

@@ -6,7 +6,6 @@ use mathlib.Core.List.{[]}
 use lib.ListN.{length, get_or}
 use native.Mathlib.Nat.{add-zero}
 use native.Mathlib.Omega.{arith}
-use borrow.Author.Rules.{rules}
 use Rattle.isa.specs.Op.{Taken}
 use Rattle.isa.specs.declared.Route.TheVariants.{Jump}
 use Rattle.effects.specs.Effect.{goes}

@@ -1,7 +1,6 @@
 -- `forms::value_width` meets its contract.
 -- Assumes nothing.
 use borrow.Author.Tests.{lt-ltb, le-ltb}
-use borrow.Author.Rules.{rules}
 use Rattle.forms.specs.Form.{value_width}
 use Rattle.forms.proofs.value_width.Goals as goal
 

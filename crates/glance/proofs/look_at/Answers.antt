@@ -2,8 +2,7 @@
 -- Assumes nothing.
 use native.Mathlib.Omega.{arith}
 use mathlib.Core.Path.{sym, ◌∙◌}
-use lib.ListN.{length, get_or}
-use borrow.Author.Rules.{rules}
+use lib.ListN.{get_or}
 use Rattle.shapes.proofs.Looks.{row-says, illegal-says}
 use Rattle.glance.specs.Firsts.{turning}
 use Rattle.glance.proofs.Firsts.{look_none, look-cut, look-led, not-turning, on-next}

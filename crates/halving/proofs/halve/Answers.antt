@@ -1,12 +1,10 @@
 -- `halving::halve` meets its contract.
 -- Assumes nothing.
-use Prim.Native.Nat.{◌+◌, ◌-◌, ◌*◌, ◌/◌, ◌≤◌, ◌<◌}
+use Prim.Native.Nat.{◌-◌, ◌/◌}
 use native.Mathlib.Omega.{arith}
-use mathlib.Core.Path.{◌≡◌, refl}
 use lib.ListN.{length}
-use Rattle.halving.specs.Halving.{halved}
-use Rattle.halving.proofs.Spans.{entry_in, left-next}
-use Rattle.halving.proofs.Steps.{halved-next, halved-end}
+use Rattle.halving.proofs.Spans.{left-next}
+use Rattle.halving.proofs.Steps.{halved-next}
 use Rattle.halving.proofs.halve.Goals as goal
 
 pub loop-more-preserved : goal.loop-more-preserved

@@ -1,12 +1,9 @@
 -- `halving::halve` meets its contract.
 -- Assumes nothing.
-use Prim.Native.Nat.{◌+◌, ◌-◌, ◌*◌, ◌/◌, ◌≤◌, ◌<◌}
-use native.Mathlib.Omega.{arith}
-use mathlib.Core.Path.{◌≡◌, refl}
+use Prim.Native.Nat.{◌+◌, ◌*◌, ◌≤◌, ◌<◌}
+use mathlib.Core.Path.{◌≡◌}
 use lib.ListN.{length}
 use Rattle.halving.specs.Halving.{halved}
-use Rattle.halving.proofs.Spans.{entry_in, left-next}
-use Rattle.halving.proofs.Steps.{halved-next, halved-end}
 use Rattle.halving.proofs.halve.Given as goal
 
 abbrev pub invariant-loop-more : goal.invariant-loop-more

@@ -1,10 +1,9 @@
 -- `halving::narrow` meets its contract.
 -- Assumes nothing.
-use Prim.Native.Nat.{◌+◌, ◌-◌, ◌*◌, ◌≤◌}
+use Prim.Native.Nat.{◌-◌}
 use native.Mathlib.Omega.{arith}
 use lib.ListN.{length}
-use borrow.Author.Rules.{rules}
-use Rattle.halving.proofs.Spans.{entry_in, left-next}
+use Rattle.halving.proofs.Spans.{left-next}
 use Rattle.halving.proofs.Steps.{narrowed-by}
 use Rattle.halving.proofs.narrow.Goals as goal
 

@@ -1,7 +1,6 @@
 -- `isa::depth_after` meets its contract: the sums of the code never exceed the cells, and are those of the definition.
 -- Assumes nothing.
 use native.Mathlib.Omega.{arith}
-use borrow.Author.Rules.{rules}
 use Prim.Native.Nat.{◌+◌, ◌-◌, ◌≤◌, ◌<◌}
 use borrow.Author.Tests.{lt-ltb, le-ltb}
 use Rattle.isa.specs.Shape.{depth_after}

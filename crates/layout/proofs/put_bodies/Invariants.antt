@@ -1,12 +1,9 @@
 -- `layout::put_bodies` meets its contract.
 -- Assumes nothing.
 use Prim.Native.Nat.{◌+◌, ◌-◌, ◌≤◌}
-use native.Mathlib.Omega.{arith}
-use mathlib.Core.Path.{◌≡◌, refl}
+use mathlib.Core.Path.{◌≡◌}
 use lib.Seq.{sets}
-use lib.ListN.{length, drop, length-set, drop_of_length-le}
-use borrow.Author.Rules.{rules}
-use Rattle.layout.proofs.Puts.{bodies-next}
+use lib.ListN.{length, drop}
 use Rattle.layout.proofs.put_bodies.Given as goal
 
 abbrev pub invariant-loop-i : goal.invariant-loop-i

@@ -1,14 +1,10 @@
 -- `layout::put_entries` meets its contract.
 -- Assumes nothing.
-use Prim.Native.Nat.{ℕ, ◌+◌, ◌-◌, ◌*◌, ◌≤◌, ◌<◌}
+use Prim.Native.Nat.{ℕ, ◌+◌, ◌*◌, ◌≤◌, ◌<◌}
 use native.Mathlib.Omega.{arith}
-use mathlib.Core.Path.{◌≡◌, refl, ◌∙◌}
-use lib.Seq.{sets}
-use lib.ListN.{length, drop}
-use borrow.Author.Rules.{rules}
-use Rattle.pack.specs.Format.{entries_bytes}
-use Rattle.layout.specs.Layout.{laid, sum_of}
-use Rattle.layout.proofs.Lists.{alike-shown, laid_none, sum-next}
+use mathlib.Core.Path.{◌≡◌, ◌∙◌}
+use lib.ListN.{length}
+use Rattle.layout.proofs.Lists.{alike-shown, sum-next}
 use Rattle.layout.proofs.Puts.{entries_next}
 use Rattle.layout.proofs.put_entries.Goals as goal
 

@@ -1,7 +1,5 @@
 -- `layout::put_entry` meets its contract.
 -- Assumes nothing.
-use Prim.Native.Nat.{◌-◌}
-use borrow.Author.Rules.{rules}
 use Rattle.layout.proofs.Puts.{put_four}
 use Rattle.layout.proofs.put_entry.Goals as goal
 

@@ -1,7 +1,6 @@
 -- `loads::load` meets its contract: fault 6, or what `push` promises of the number read, by the laws of `Accesses`.
 -- Assumes nothing.
 use native.Mathlib.Omega.{arith}
-use borrow.Author.Rules.{rules}
 use Rattle.memory.proofs.Accesses.{load-fails, load-leaves}
 use Rattle.loads.proofs.load.Goals as goal
 

@@ -1,8 +1,7 @@
 -- `loads::load_number` meets its contract: fault 5 by `full`, else what `load` promises at n = 0.
 -- Assumes nothing.
-use mathlib.Core.Path.{refl, sym}
+use mathlib.Core.Path.{sym}
 use native.Mathlib.Omega.{arith}
-use borrow.Author.Rules.{rules}
 use Rattle.effects.proofs.Opens.{full}
 use Rattle.isa.specs.Op.{Load}
 use Rattle.loads.proofs.load_number.Goals as goal

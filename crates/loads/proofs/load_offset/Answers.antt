@@ -1,9 +1,7 @@
 -- `loads::load_offset` meets its contract: fault 4 by `few`, else what `load` promises at n = 1.
 -- Assumes nothing.
-use mathlib.Core.Path.{refl, sym, ◌∙◌}
+use mathlib.Core.Path.{sym}
 use native.Mathlib.Omega.{arith}
-use native.Mathlib.Nat.{add-zero}
-use borrow.Author.Rules.{rules}
 use Rattle.effects.proofs.Opens.{few}
 use Rattle.isa.specs.Op.{Load}
 use Rattle.loads.proofs.load_offset.Goals as goal

@@ -4,10 +4,9 @@ use native.Mathlib.Omega.{arith}
 use mathlib.Core.List.{[], ◌∷◌}
 use Rattle.paths.specs.Paths.{hop}
 use Rattle.look.specs.Look.{look_of}
-use Rattle.look.specs.declared.Look.TheVariants.{Bad, Nowhere, One, Two}
+use Rattle.look.specs.declared.Look.TheVariants.{Nowhere, One, Two}
 use Rattle.meeting.specs.declared.Examined.TheVariants.{On}
-use Rattle.meeting.proofs.Steps.{went-none, turned-bad, turned-leads, looked, one-deep, two_deep}
-use borrow.Author.Rules.{rules}
+use Rattle.meeting.proofs.Steps.{went-none, turned-leads, looked, one-deep, two_deep}
 use Rattle.meeting.proofs.examine.Goals as goal
 
 pub meet_one-requires : goal.meet_one-requires

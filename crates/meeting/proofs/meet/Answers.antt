@@ -1,9 +1,7 @@
 -- `meeting::meet` meets its contract: the cell tells the mark.
 -- Assumes nothing.
 use native.Mathlib.Omega.{arith}
-use Rattle.meeting.proofs.Turns.{cell-unmet, meet-known, meet-clash, maps-set, meet-past}
-use Rattle.paths.specs.Walk.{due}
-use borrow.Author.Rules.{rules}
+use Rattle.meeting.proofs.Turns.{meet-known, meet-clash, meet-past}
 use Rattle.meeting.proofs.meet.Goals as goal
 
 pub returns-then-b-map : goal.returns-then-b-map

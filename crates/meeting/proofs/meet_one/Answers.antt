@@ -1,7 +1,6 @@
 -- `meeting::meet_one` meets its contract: by what meeting gave.
 -- Assumes nothing.
 use Rattle.meeting.proofs.Steps.{one-new, one_known, one-refused}
-use borrow.Author.Rules.{rules}
 use Rattle.meeting.proofs.meet_one.Goals as goal
 
 pub returns-in-New : goal.returns-in-New

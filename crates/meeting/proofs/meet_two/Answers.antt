@@ -1,10 +1,8 @@
 -- `meeting::meet_two` meets its contract: one is met, then the other.
 -- Assumes nothing.
-use native.Mathlib.Omega.{arith}
 use mathlib.Core.List.{[], ◌∷◌}
 use Rattle.paths.specs.Paths.{hop}
-use Rattle.meeting.proofs.Steps.{two-new, two-known, two-refused, two-stop, inside-new}
-use borrow.Author.Rules.{rules}
+use Rattle.meeting.proofs.Steps.{two-new, two-known, two-refused, two-stop}
 use Rattle.meeting.proofs.meet_two.Goals as goal
 
 pub returns-in-New : goal.returns-in-New

@@ -3,7 +3,6 @@
 use Prim.Native.Nat.{◌*◌}
 use native.Mathlib.Omega.{arith}
 use Rattle.names.proofs.Named.{row_inside, name-length-at}
-use borrow.Author.Rules.{rules}
 use Rattle.names.proofs.name_length.Goals as goal
 
 pub bounds-names-start : goal.bounds-names-start

@@ -1,9 +1,6 @@
 -- `names::put_name` meets its contract.
 -- Assumes nothing.
-use Prim.Native.Nat.{◌*◌}
-use native.Mathlib.Omega.{arith}
 use Rattle.names.proofs.Named.{row_inside, name-end, name-part}
-use borrow.Author.Rules.{rules}
 use Rattle.names.proofs.put_name.Goals as goal
 
 pub bounds-names-row : goal.bounds-names-row

@@ -4,7 +4,6 @@ use Prim.Native.Nat.{◌≤◌}
 use native.Mathlib.Omega.{arith}
 use Rattle.text.proofs.Puts.{length-hex}
 use Rattle.operands.proofs.Shown.{operand-long}
-use borrow.Author.Rules.{rules}
 use Rattle.operands.proofs.operand_length.Goals as goal
 
 pub returns : goal.returns

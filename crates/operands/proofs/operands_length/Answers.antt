@@ -2,9 +2,8 @@
 -- Assumes nothing.
 use Prim.Native.Nat.{ℕ, ◌+◌, ◌/◌, ◌≤◌}
 use native.Mathlib.Omega.{arith}
-use borrow.Author.Rules.{rules}
 use Rattle.forms.proofs.Widths.{value-width-le}
-use Rattle.operands.proofs.Shown.{shown-le, length-all}
+use Rattle.operands.proofs.Shown.{length-all}
 use Rattle.operands.proofs.operands_length.Goals as goal
 
 short : (n n0 n1 n2 n3 : ℕ) → n ≤ 6 → n0 ≤ 6 → n1 ≤ 6 → n2 ≤ 6 → n3 ≤ 6 → n + n0 + n1 + n2 + n3 ≤ 30

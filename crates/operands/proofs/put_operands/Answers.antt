@@ -2,7 +2,6 @@
 -- Assumes nothing.
 use mathlib.Core.Path.{◌∙◌}
 use lib.ListN.{length}
-use borrow.Author.Rules.{rules}
 use Rattle.operands.proofs.Shown.{room-number, room-first, room-second, room-third, room-fourth, put_all}
 use Rattle.operands.proofs.put_operands.Goals as goal
 

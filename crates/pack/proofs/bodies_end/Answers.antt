@@ -1,12 +1,8 @@
 -- `pack::bodies_end` meets its contract.
 -- Assumes nothing.
-use Prim.Native.Nat.{◌+◌, ◌-◌, ◌*◌, ◌≤◌}
 use native.Mathlib.Omega.{arith}
-use mathlib.Core.Path.{◌≡◌, refl, sym, ◌∙◌}
-use lib.ListN.{length}
-use borrow.Author.Rules.{rules}
-use Rattle.pack.specs.Contents.{first_of, entries_from, end_of}
-use Rattle.pack.proofs.Walks.{end_refused, end-next, passed}
+use mathlib.Core.Path.{sym, ◌∙◌}
+use Rattle.pack.proofs.Walks.{end-next, passed}
 use Rattle.pack.proofs.bodies_end.Goals as goal
 
 pub loop-left-preserved : goal.loop-left-preserved

@@ -1,12 +1,9 @@
 -- `pack::bodies_end` meets its contract.
 -- Assumes nothing.
 use Prim.Native.Nat.{◌+◌, ◌-◌, ◌*◌, ◌≤◌}
-use native.Mathlib.Omega.{arith}
-use mathlib.Core.Path.{◌≡◌, refl, sym, ◌∙◌}
+use mathlib.Core.Path.{◌≡◌}
 use lib.ListN.{length}
-use borrow.Author.Rules.{rules}
 use Rattle.pack.specs.Contents.{first_of, entries_from, end_of}
-use Rattle.pack.proofs.Walks.{end_refused, end-next, passed}
 use Rattle.pack.proofs.bodies_end.Given as goal
 
 abbrev pub invariant-loop-left : goal.invariant-loop-left

@@ -1,16 +1,13 @@
 -- `pack::entry_at` meets its contract.
 -- Assumes nothing.
-use Prim.Native.Nat.{◌-◌}
 use native.Mathlib.Omega.{arith}
 use mathlib.Core.Path.{sym, ap, ◌∙◌}
 use mathlib.Core.Option.{some}
-use lib.ListN.{length}
-use borrow.Author.Rules.{rules}
 use Rattle.basis.specs.Answer.{given}
-use Rattle.pack.specs.Read.{read_of, checked_answer}
+use Rattle.pack.specs.Read.{checked_answer}
 use Rattle.pack.specs.declared.Entry.{Entry}
 use Rattle.pack.proofs.Walks.{from-there, from_past}
-use Rattle.pack.proofs.Sounds.{counted, refused-seen}
+use Rattle.pack.proofs.Sounds.{counted}
 use Rattle.pack.proofs.entry_at.Goals as goal
 
 pub returns-then-n-index : goal.returns-then-n-index

@@ -2,8 +2,6 @@
 -- Assumes nothing.
 use mathlib.Core.Path.{sym, ap, ◌∙◌}
 use lib.ListN.{length}
-use borrow.Author.Rules.{rules}
-use Rattle.basis.specs.Answer.{given}
 use Rattle.pack.specs.Read.{read_of, checked_answer}
 use Rattle.pack.specs.Find.{find_of}
 use Rattle.pack.proofs.Sounds.{counted, refused-seen}

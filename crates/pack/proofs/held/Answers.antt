@@ -1,6 +1,5 @@
 -- `pack::held` meets its contract.
 -- Assumes nothing.
-use borrow.Author.Rules.{rules}
 use Rattle.pack.proofs.Sounds.{held_none, held-many, held_cut, held_all}
 use Rattle.pack.proofs.held.Goals as goal
 

@@ -1,6 +1,5 @@
 -- `pack::kept` meets its contract.
 -- Assumes nothing.
-use borrow.Author.Rules.{rules}
 use Rattle.pack.proofs.Keeps.{kept-other, kept-cells, kept-length, kept-outside, kept-good}
 use Rattle.pack.proofs.kept.Goals as goal
 

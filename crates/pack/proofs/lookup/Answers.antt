@@ -1,7 +1,6 @@
 -- `pack::lookup` meets its contract.
 -- Assumes nothing.
 use mathlib.Core.Path.{sym, ap, ◌∙◌}
-use borrow.Author.Rules.{rules}
 use Rattle.pack.specs.Read.{checked_answer}
 use Rattle.pack.specs.Find.{found_answer}
 use Rattle.pack.proofs.Sounds.{held-bounds}

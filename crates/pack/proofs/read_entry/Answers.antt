@@ -1,6 +1,5 @@
 -- `pack::read_entry` meets its contract.
 -- Assumes nothing.
-use borrow.Author.Rules.{rules}
 use Rattle.pack.proofs.Walks.{entry_read}
 use Rattle.pack.proofs.read_entry.Goals as goal
 

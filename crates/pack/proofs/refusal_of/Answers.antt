@@ -1,9 +1,7 @@
 -- `pack::refusal_of` meets its contract.
 -- Assumes nothing.
-use Prim.Native.Nat.{◌-◌}
 use borrow.Author.Tests.{lt-ltb, le-ltb, eq-eqb, ne_eqb}
 use Rattle.pack.specs.Contents.{refusal_of}
-use borrow.Author.Rules.{rules}
 use Rattle.pack.proofs.refusal_of.Goals as goal
 
 pub returns-then-e-least : goal.returns-then-e-least

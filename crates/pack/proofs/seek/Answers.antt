@@ -1,6 +1,5 @@
 -- `pack::seek` meets its contract.
 -- Assumes nothing.
-use borrow.Author.Rules.{rules}
 use Rattle.pack.specs.Find.{found_answer}
 use Rattle.pack.proofs.Keeps.{reached-in, halved_none, halved-kept}
 use Rattle.pack.proofs.seek.Goals as goal

@@ -1,16 +1,11 @@
 -- `packer::bodies_end` meets its contract.
 -- Assumes nothing.
-use Prim.Native.Nat.{◌+◌, ◌-◌, ◌*◌, ◌≤◌}
 use native.Mathlib.Omega.{arith}
-use mathlib.Core.Path.{◌≡◌, refl, sym, ◌∙◌}
-use lib.ListN.{length, get_or, drop}
-use borrow.Author.Rules.{rules}
-use Rattle.basis.specs.Answer.{given}
-use Rattle.pack.specs.Contents.{first_of, end_of}
+use mathlib.Core.Path.{sym, ◌∙◌}
+use lib.ListN.{get_or}
 use Rattle.pack.proofs.Walks.{passed}
-use Rattle.packer.specs.Write.{entry_of, laid, laid_of}
-use Rattle.packer.proofs.Lists.{alike-shown, laid_none, lists-refused, lists-next}
-use Rattle.packer.proofs.Writes.{taken}
+use Rattle.packer.specs.Write.{entry_of}
+use Rattle.packer.proofs.Lists.{alike-shown, lists-refused, lists-next}
 use Rattle.packer.proofs.bodies_end.Goals as goal
 
 pub returns-then-refusal-ne0 : goal.returns-then-refusal-ne0

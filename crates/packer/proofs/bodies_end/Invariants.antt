@@ -1,16 +1,10 @@
 -- `packer::bodies_end` meets its contract.
 -- Assumes nothing.
 use Prim.Native.Nat.{◌+◌, ◌-◌, ◌*◌, ◌≤◌}
-use native.Mathlib.Omega.{arith}
-use mathlib.Core.Path.{◌≡◌, refl, sym, ◌∙◌}
-use lib.ListN.{length, get_or, drop}
-use borrow.Author.Rules.{rules}
-use Rattle.basis.specs.Answer.{given}
+use mathlib.Core.Path.{◌≡◌}
+use lib.ListN.{length, drop}
 use Rattle.pack.specs.Contents.{first_of, end_of}
-use Rattle.pack.proofs.Walks.{passed}
-use Rattle.packer.specs.Write.{entry_of, laid, laid_of}
-use Rattle.packer.proofs.Lists.{alike-shown, laid_none, lists-refused, lists-next}
-use Rattle.packer.proofs.Writes.{taken}
+use Rattle.packer.specs.Write.{laid, laid_of}
 use Rattle.packer.proofs.bodies_end.Given as goal
 
 abbrev pub invariant-loop-i : goal.invariant-loop-i

@@ -1,15 +1,13 @@
 -- `packer::decide` meets its contract.
 -- Assumes nothing.
-use Prim.Native.Nat.{◌-◌}
 use mathlib.Core.Path.{sym, ap, ◌∙◌}
 use lib.ListN.{length}
-use borrow.Author.Rules.{rules}
 use Rattle.basis.specs.Answer.{given, refused}
 use Rattle.pack.specs.Contents.{first_of, bodies_answer}
 use Rattle.pack.proofs.Walks.{end_ge}
 use Rattle.packer.specs.Write.{laid_of}
-use Rattle.packer.proofs.Lists.{Alike, alike-back, length-laid}
-use Rattle.packer.proofs.Writes.{over, unlike-cells, unlike-lengths, like, taken}
+use Rattle.packer.proofs.Lists.{Alike, length-laid}
+use Rattle.packer.proofs.Writes.{over, unlike-cells, unlike-lengths, like}
 use Rattle.packer.proofs.decide.Goals as goal
 
 pub returns-then-n-gt64 : goal.returns-then-n-gt64

@@ -1,15 +1,13 @@
 -- `packer::fit` meets its contract.
 -- Assumes nothing.
-use Prim.Native.Nat.{◌+◌, ◌-◌}
+use Prim.Native.Nat.{◌+◌}
 use native.Mathlib.Omega.{arith}
 use mathlib.Core.Path.{◌≡◌, ap}
 use lib.ListN.{length}
-use borrow.Author.Rules.{rules}
-use borrow.Author.Tests.{lt-ltb, le-ltb, eq-eqb, ne_eqb}
+use borrow.Author.Tests.{lt-ltb, le-ltb, eq-eqb}
 use Rattle.basis.specs.Answer.{given}
 use Rattle.pack.specs.Contents.{first_of}
 use Rattle.packer.proofs.Puts.{length-pack}
-use Rattle.packer.proofs.Writes.{taken}
 use Rattle.packer.proofs.fit.Goals as goal
 
 pub returns-then-room-end : goal.returns-then-room-end

@@ -1,16 +1,12 @@
 -- `packer::write` meets its contract.
 -- Assumes nothing.
-use Prim.Native.Nat.{◌-◌}
 use native.Mathlib.Omega.{arith}
 use mathlib.Core.Path.{refl, sym, ap, ◌∙◌}
 use lib.ListN.{length}
-use borrow.Author.Rules.{rules}
-use Rattle.basis.specs.Answer.{given}
 use Rattle.basis.proofs.Stores.{sets-start}
 use Rattle.pack.specs.Contents.{first_of}
 use Rattle.pack.specs.Format.{pack_of}
-use Rattle.pack.proofs.Sounds.{refused-seen}
-use Rattle.packer.specs.Write.{laid_of, write_of, written_answer}
+use Rattle.packer.specs.Write.{laid_of, written_answer}
 use Rattle.packer.proofs.Lists.{alike-back, end-sum}
 use Rattle.packer.proofs.Writes.{length-written, took, given-write}
 use Rattle.packer.proofs.write.Goals as goal

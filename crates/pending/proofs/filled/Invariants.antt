@@ -1,11 +1,8 @@
 -- `pending::filled` meets its contract: what was passed over is 0.
 -- Assumes nothing.
-use borrow.Author.Count.{below_more}
-use native.Mathlib.Omega.{arith}
 use Prim.Native.Nat.{ℕ, ◌<◌, ◌≤◌, ◌-◌}
 use mathlib.Core.Path.{◌≡◌}
 use lib.ListN.{length, get_or}
-use borrow.Author.Rules.{rules}
 use Rattle.pending.proofs.filled.Given as goal
 
 abbrev pub invariant-loop-i : goal.invariant-loop-i

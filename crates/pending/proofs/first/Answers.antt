@@ -2,10 +2,6 @@
 -- Assumes nothing.
 use Rattle.pending.proofs.Words.{first-is}
 use native.Mathlib.Omega.{arith}
-use Prim.Native.Nat.{◌-◌}
-use lib.ListN.{get_or}
-use lib.Count.{trailing_le}
-use borrow.Author.Rules.{rules}
 use Rattle.pending.proofs.first.Goals as goal
 
 pub returns : goal.returns

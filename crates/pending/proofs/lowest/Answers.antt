@@ -2,7 +2,6 @@
 -- Assumes nothing.
 use native.Mathlib.Omega.{arith}
 use Rattle.pending.proofs.Words.{none-held, topped-none}
-use borrow.Author.Rules.{rules}
 use Rattle.pending.proofs.lowest.Goals as goal
 
 pub returns-then-i-tops : goal.returns-then-i-tops

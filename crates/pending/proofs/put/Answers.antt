@@ -1,7 +1,6 @@
 -- `pending::put` meets its contract: the word and its top are joined.
 -- Assumes nothing.
 use Rattle.pending.proofs.Words.{topped-put}
-use borrow.Author.Rules.{rules}
 use Rattle.pending.proofs.put.Goals as goal
 
 pub returns : goal.returns

@@ -1,9 +1,8 @@
 -- `pending::remove` meets its contract: the top goes with the last of its word.
 -- Assumes nothing.
 use native.Mathlib.Omega.{arith}
-use Rattle.pending.proofs.Words.{topped-kept, topped-out, topped-held}
+use Rattle.pending.proofs.Words.{topped-kept, topped-held}
 use mathlib.Core.Path.{refl}
-use borrow.Author.Rules.{rules}
 use Rattle.pending.proofs.remove.Goals as goal
 
 pub leave-requires-then-words-j-eq0 : goal.leave-requires-then-words-j-eq0

@@ -1,7 +1,6 @@
 -- `pending::with` meets its contract: the digit set and the others are told by the laws of one digit.
 -- Assumes nothing.
 use Rattle.pending.proofs.Digits.{with-same, with-other}
-use borrow.Author.Rules.{rules}
 use Rattle.pending.proofs.with.Goals as goal
 
 pub returns : goal.returns

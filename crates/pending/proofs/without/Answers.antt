@@ -1,7 +1,6 @@
 -- `pending::without` meets its contract: the digit taken away and the others are told by the laws of one digit.
 -- Assumes nothing.
 use Rattle.pending.proofs.Digits.{without-same, without_other}
-use borrow.Author.Rules.{rules}
 use Rattle.pending.proofs.without.Goals as goal
 
 pub returns : goal.returns

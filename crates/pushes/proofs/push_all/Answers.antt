@@ -1,11 +1,8 @@
 -- `pushes::push_all` meets its contract: what is pushed already, and the values that are left, make all of them.
 -- Assumes nothing.
-use Prim.Native.Nat.{◌+◌, ◌≤◌}
 use native.Mathlib.Omega.{arith}
-use mathlib.Core.Path.{◌≡◌, refl, ap, ◌∙◌}
+use mathlib.Core.Path.{ap, ◌∙◌}
 use lib.ListN.{length, length-set}
-use Rattle.effects.specs.Memory.{pushed}
-use Rattle.pushes.specs.Values.{values_from, bytes_in}
 use Rattle.pushes.proofs.Pushed.{bytes-step, push_step}
 use Rattle.pushes.proofs.push_all.Goals as goal
 

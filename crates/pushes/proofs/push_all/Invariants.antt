@@ -1,12 +1,10 @@
 -- `pushes::push_all` meets its contract: what is pushed already, and the values that are left, make all of them.
 -- Assumes nothing.
 use Prim.Native.Nat.{◌+◌, ◌≤◌}
-use native.Mathlib.Omega.{arith}
-use mathlib.Core.Path.{◌≡◌, refl, ap, ◌∙◌}
-use lib.ListN.{length, length-set}
+use mathlib.Core.Path.{◌≡◌}
+use lib.ListN.{length}
 use Rattle.effects.specs.Memory.{pushed}
 use Rattle.pushes.specs.Values.{values_from, bytes_in}
-use Rattle.pushes.proofs.Pushed.{bytes-step, push_step}
 use Rattle.pushes.proofs.push_all.Given as goal
 
 abbrev pub invariant-loop-left : goal.invariant-loop-left

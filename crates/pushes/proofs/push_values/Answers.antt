@@ -4,8 +4,7 @@
 use Prim.Native.Nat.{◌+◌}
 use native.Mathlib.Omega.{arith}
 use mathlib.Core.Path.{◌≡◌, sym}
-use lib.Count.{ones, ones-le}
-use borrow.Author.Rules.{rules}
+use lib.Count.{ones}
 use Rattle.forms.specs.Form.{count_in, flags_in}
 use Rattle.forms.specs.declared.Form.TheVariants.{Values}
 use Rattle.pushes.proofs.Pushed.{bytes-ones, values-four}

@@ -1,14 +1,12 @@
 -- `copies::data_copy::highest_first` meets its contract. The invariant, up: what is left to copy, of the bytes as they stood at first, leaves what
 -- the whole copy leaves, and those still to be read stand as at first. The measure is where the bytes still to be read end.
 -- Assumes nothing.
-use Prim.Native.Nat.{ℕ, ◌+◌, ◌-◌, ◌<◌, ◌≤◌}
-use mathlib.Core.Path.{◌≡◌, refl, sym, ◌∙◌}
+use Prim.Native.Nat.{◌-◌}
+use mathlib.Core.Path.{sym, ◌∙◌}
 use native.Mathlib.Omega.{arith}
-use borrow.Author.Rules.{rules}
-use lib.ListN.{length, get_or, length-set}
+use lib.ListN.{length-set}
 use lib.Seq.{get_or-set_other}
-use Rattle.effects.specs.Memory.{copied}
-use Rattle.copies.proofs.Copies.{copied_none, copied-last}
+use Rattle.copies.proofs.Copies.{copied-last}
 use Rattle.copies.proofs.data_copy.highest_first.Goals as goal
 
 pub loop-source_end-preserved : goal.loop-source_end-preserved

@@ -2,13 +2,9 @@
 -- the whole copy leaves, and those still to be read stand as at first. The measure is where the bytes still to be read end.
 -- Assumes nothing.
 use Prim.Native.Nat.{ℕ, ◌+◌, ◌-◌, ◌<◌, ◌≤◌}
-use mathlib.Core.Path.{◌≡◌, refl, sym, ◌∙◌}
-use native.Mathlib.Omega.{arith}
-use borrow.Author.Rules.{rules}
-use lib.ListN.{length, get_or, length-set}
-use lib.Seq.{get_or-set_other}
+use mathlib.Core.Path.{◌≡◌}
+use lib.ListN.{length, get_or}
 use Rattle.effects.specs.Memory.{copied}
-use Rattle.copies.proofs.Copies.{copied_none, copied-last}
 use Rattle.copies.proofs.data_copy.highest_first.Given as goal
 
 abbrev pub invariant-loop-source_end : goal.invariant-loop-source_end

@@ -1,15 +1,13 @@
 -- `copies::data_copy::lowest_first` meets its contract. The invariant, down or to a range apart: what is left to copy, of the bytes as they stood
 -- at first, leaves what the whole copy leaves, and those still to be read stand as at first. The measure is the number of bytes left.
 -- Assumes nothing.
-use Prim.Native.Nat.{ℕ, ◌+◌, ◌-◌, ◌<◌, ◌≤◌}
-use mathlib.Core.Path.{◌≡◌, refl, sym, ◌∙◌}
-use mathlib.Core.Logic.{◌⊎◌, ⊎_elim}
+use Prim.Native.Nat.{◌+◌, ◌-◌}
+use mathlib.Core.Path.{sym, ◌∙◌}
+use mathlib.Core.Logic.{⊎_elim}
 use native.Mathlib.Omega.{arith}
-use borrow.Author.Rules.{rules}
-use lib.ListN.{length, get_or, length-set}
+use lib.ListN.{length-set}
 use lib.Seq.{get_or-set_other}
-use Rattle.effects.specs.Memory.{copied}
-use Rattle.copies.proofs.Copies.{copied_none, copied-first}
+use Rattle.copies.proofs.Copies.{copied-first}
 use Rattle.copies.proofs.data_copy.lowest_first.Goals as goal
 
 pub loop-source-preserved : goal.loop-source-preserved

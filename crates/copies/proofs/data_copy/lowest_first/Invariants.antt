@@ -2,14 +2,10 @@
 -- at first, leaves what the whole copy leaves, and those still to be read stand as at first. The measure is the number of bytes left.
 -- Assumes nothing.
 use Prim.Native.Nat.{ℕ, ◌+◌, ◌-◌, ◌<◌, ◌≤◌}
-use mathlib.Core.Path.{◌≡◌, refl, sym, ◌∙◌}
-use mathlib.Core.Logic.{◌⊎◌, ⊎_elim}
-use native.Mathlib.Omega.{arith}
-use borrow.Author.Rules.{rules}
-use lib.ListN.{length, get_or, length-set}
-use lib.Seq.{get_or-set_other}
+use mathlib.Core.Path.{◌≡◌}
+use mathlib.Core.Logic.{◌⊎◌}
+use lib.ListN.{length, get_or}
 use Rattle.effects.specs.Memory.{copied}
-use Rattle.copies.proofs.Copies.{copied_none, copied-first}
 use Rattle.copies.proofs.data_copy.lowest_first.Given as goal
 
 abbrev pub invariant-loop-source : goal.invariant-loop-source

@@ -1,12 +1,10 @@
 -- `copies::program_copy::copy_bytes` meets its contract. The invariant: what is left to copy from here leaves what the whole copy leaves.
 -- The measure is the number of bytes left.
 -- Assumes nothing.
-use Prim.Native.Nat.{◌+◌, ◌-◌, ◌≤◌}
-use mathlib.Core.Path.{◌≡◌, refl, sym, ◌∙◌}
-use native.Mathlib.Omega.{arith}
-use lib.ListN.{length, length-set}
+use Prim.Native.Nat.{◌+◌, ◌≤◌}
+use mathlib.Core.Path.{◌≡◌}
+use lib.ListN.{length}
 use Rattle.effects.specs.Memory.{copied}
-use Rattle.copies.proofs.Copies.{copied_none, copied-first}
 use Rattle.copies.proofs.program_copy.copy_bytes.Given as goal
 
 abbrev pub invariant-loop-left : goal.invariant-loop-left

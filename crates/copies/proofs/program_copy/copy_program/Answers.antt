@@ -2,8 +2,6 @@
 -- Assumes nothing.
 use mathlib.Core.Path.{sym, ◌∙◌}
 use native.Mathlib.Omega.{arith}
-use borrow.Author.Tests.{not-true, not-false, leb-true}
-use borrow.Author.Rules.{rules}
 use Rattle.effects.proofs.Opens.{few}
 use Rattle.isa.specs.Op.{ProgramCopy}
 use Rattle.copies.proofs.Copies.{program-copies, target-fails, source-fails, copies}

@@ -1,0 +1,19 @@
+-- `intake::take_chunk` meets its contract.
+-- Assumes nothing.
+use Rattle.intake.proofs.Chunks.{chunk-more}
+use Rattle.admission.proofs.Fits.{chunk-fit}
+use Rattle.admission.specs.Admission.{mach, chunk_of}
+use Rattle.admission.specs.Fit.{Fit}
+use Rattle.basis.proofs.Stores.{tail}
+use borrow.Author.Rules.{rules}
+use lib.ListN.{length, take, drop, drop_of_length-le, length-drop}
+use mathlib.Core.Path.{◌≡◌, refl, sym, subst}
+use Prim.Native.Nat.{◌-◌, ◌≤◌}
+use native.Mathlib.Omega.{arith}
+use Rattle.intake.proofs.take_chunk.Given as goal
+
+abbrev pub invariant-loop-i : goal.invariant-loop-i
+invariant-loop-i l = Fit (mach l.now l.contents l.body l.map l.verdicts) × (chunk_of (drop l.i l.chunk) (mach l.now l.contents l.body l.map l.verdicts) ≡ chunk_of l.chunk (mach l.initial.now l.initial.contents l.initial.body l.initial.map l.initial.verdicts)) × (l.i ≤ length l.chunk) × (length l.contents ≡ length l.initial.contents) × (length l.body ≡ length l.initial.body) × (length l.map ≡ length l.initial.map) × (length l.verdicts ≡ length l.initial.verdicts)
+
+abbrev pub decreases-loop-i : goal.decreases-loop-i
+decreases-loop-i l = length l.chunk - l.i

@@ -1,0 +1,18 @@
+-- `report::put_report` meets its contract.
+-- Assumes nothing.
+use native.Mathlib.Omega.{arith}
+use Prim.Native.Nat.{◌-◌, ◌*◌, ◌≤◌}
+use mathlib.Core.Path.{◌≡◌, refl, sym, ap, ◌∙◌}
+use lib.ListN.{length}
+use Rattle.pack.specs.Read.{listed_answer}
+use Rattle.rulings.specs.Rulings.{judged_of}
+use Rattle.verdicts.proofs.Lines.{length-line, length-pack-line}
+use Rattle.report.proofs.Reports.{Left, left-start, entered, left-next, left-past, left_alone, left-refused}
+use borrow.Author.Rules.{rules}
+use Rattle.report.proofs.put_report.Given as goal
+
+abbrev pub invariant-loop-e : goal.invariant-loop-e
+invariant-loop-e l = (l.index ≤ 64) × (l.next ≤ 24 * l.index) × (length l.map ≡ length l.initial.map) × (length l.room ≡ length l.initial.room) × Left l.pack l.index l.room l.next l.map l.initial.room l.initial.map
+
+abbrev pub decreases-loop-e : goal.decreases-loop-e
+decreases-loop-e l = 64 - l.index
