@@ -150,11 +150,11 @@ impl Linker {
     /// with all that stands in its object beside it. Only its new name is global.
     fn copy(&mut self, from: &Path, function: &str, past: usize, name: &str) {
         let [script, object] = ["ld", "o"].map(|end| self.out.join(format!("{name}.{end}")));
-        let laid = format!(". += {past}; *(.text.{function}) *(.text .text.*)");
-        write(
-            &script,
-            &format!("SECTIONS {{ .text : ALIGN({LINE}) SUBALIGN(16) {{ {laid} }} }}\n"),
+        let own = format!(
+            ".text.{function} : ALIGN({LINE}) SUBALIGN(1) {{ . += {past}; *(.text.{function}) }}"
         );
+        let others = ".text : SUBALIGN(16) { *(.text .text.*) }";
+        write(&script, &format!("SECTIONS {{ {own} {others} }}\n"));
         run(Command::new(&self.ld)
             .args(["-r", "-u", function, "-T"])
             .arg(script)
