@@ -7,7 +7,7 @@
 ghost use Rattle.std.specs.Prelude.{◌<◌, ◌≤◌};
 
 use admission::{Admission, Admitted};
-use libc::STDIN_FILENO;
+use std::io;
 use vectors::{given, pieces, rooms, said};
 
 // The cell at a place, 0 where there is none.
@@ -19,72 +19,67 @@ fn cell(cells: &[u16], at: usize) -> u16 {
 }
 
 // ` TAG accepted` or ` TAG refused N AT`
-fn say_verdict(verdicts: &[u16], i: usize)
+fn say_verdict(rt: &impl Print, verdicts: &[u16], i: usize) -> io::Result<()>
     requires { i < 64 }
 {
-    said::number(cell(verdicts, 3 * i) as usize);
+    said::number(rt, cell(verdicts, 3 * i) as usize)?;
     let number = cell(verdicts, 3 * i + 1);
     if number == 0 {
-        said::text(b" accepted");
-        return;
+        return said::text(rt, b" accepted");
     }
-    said::text(b" refused");
-    said::number(number as usize);
-    said::number(cell(verdicts, 3 * i + 2) as usize);
+    said::text(rt, b" refused")?;
+    said::number(rt, number as usize)?;
+    said::number(rt, cell(verdicts, 3 * i + 2) as usize)
 }
 
-fn say_verdicts(verdicts: &[u16], n: usize) {
+fn say_verdicts(rt: &impl Print, verdicts: &[u16], n: usize) -> io::Result<()> {
     let mut i: usize = 0;
     while i < n {
         if 64 <= i {
-            return;
+            return Ok(());
         }
-        say_verdict(verdicts, i);
+        say_verdict(rt, verdicts, i)?;
         i += 1;
     }
+    Ok(())
 }
 
 // `good COUNT` and the verdicts, or `refused N`
-fn say_closed(admitted: Admitted, verdicts: &[u16]) {
+fn say_closed(rt: &impl Print, admitted: Admitted, verdicts: &[u16]) -> io::Result<()> {
     let refusal = admitted.refusal;
     if refusal != 0 {
-        said::refused(refusal);
-        return;
+        return said::refused(rt, refusal);
     }
     let st = admitted.admission;
-    said::text(b"good");
-    said::number(st.judged);
-    say_verdicts(verdicts, st.judged);
+    said::text(rt, b"good")?;
+    said::number(rt, st.judged)?;
+    say_verdicts(rt, verdicts, st.judged)
 }
 
-fn say_chunk(admitted: Admitted) {
+fn say_chunk(rt: &impl Print, admitted: Admitted) -> io::Result<()> {
     let refusal = admitted.refusal;
     if refusal != 0 {
-        said::refused(refusal);
-        return;
+        return said::refused(rt, refusal);
     }
-    said::text(b"ok");
+    said::text(rt, b"ok")
 }
 
-fn say_asked(admitted: Admitted, verdicts: &[u16]) {
+fn say_asked(rt: &impl Print, admitted: Admitted, verdicts: &[u16]) -> io::Result<()> {
     let st = admitted.admission;
     if st.closed == 0 {
-        said::text(b"open");
-        return;
+        return said::text(rt, b"open");
     }
-    say_closed(admitted, verdicts);
+    say_closed(rt, admitted, verdicts)
 }
 
-fn say_event(what: u16, admitted: Admitted, verdicts: &[u16]) {
+fn say_event(rt: &impl Print, what: u16, admitted: Admitted, verdicts: &[u16]) -> io::Result<()> {
     if what == 65535 {
-        say_closed(admitted, verdicts);
-        return;
+        return say_closed(rt, admitted, verdicts);
     }
     if what == 65534 {
-        say_asked(admitted, verdicts);
-        return;
+        return say_asked(rt, admitted, verdicts);
     }
-    say_chunk(admitted);
+    say_chunk(rt, admitted)
 }
 
 // What an event is answered, its bytes being the first of those that are left.
@@ -136,6 +131,7 @@ struct Came {
 
 // An event so many times, the last time answered.
 fn again(
+    rt: &impl Print,
     came: Came,
     times: u16,
     what: u16,
@@ -144,7 +140,7 @@ fn again(
     body: &mut [u8],
     map: &mut [u16],
     verdicts: &mut [u16],
-) -> Came {
+) -> io::Result<Came> {
     let size = taken(what);
     let mut st = came.admission;
     let mut at = came.at;
@@ -160,24 +156,25 @@ fn again(
             verdicts,
         );
         if left == 1 {
-            say_event(what, admitted, verdicts);
+            say_event(rt, what, admitted, verdicts)?;
         }
         st = admitted.admission;
         at = std::num::wrapping_add_usize(at, size);
         left -= 1;
     }
-    Came { admission: st, at }
+    Ok(Came { admission: st, at })
 }
 
 // The events of a case, from where they are counted on.
 fn all_events(
+    rt: &impl Print,
     events: &[u8],
     bytes: &[u8],
     contents: &mut [u8],
     body: &mut [u8],
     map: &mut [u16],
     verdicts: &mut [u16],
-) {
+) -> io::Result<()> {
     let count = given::number(events, 0) as usize;
     let mut came = Came {
         admission: admission::start(),
@@ -186,57 +183,60 @@ fn all_events(
     let mut i: usize = 0;
     while i < count {
         if 0 < i {
-            said::text(b" ; ");
+            said::text(rt, b" ; ")?;
         }
         let times = given::number(events, 4 * i + 2);
         let what = given::number(events, 4 * i + 4);
-        came = again(came, times, what, bytes, contents, body, map, verdicts);
+        came = again(rt, came, times, what, bytes, contents, body, map, verdicts)?;
         i += 1;
     }
+    Ok(())
 }
 
 // The events over memory of just the sizes that an admission asks for.
-fn over_memory(events: &[u8], bytes: &[u8]) {
+fn over_memory(rt: &impl Print, events: &[u8], bytes: &[u8]) -> io::Result<()> {
     let mut contents = rooms::bytes();
     let mut body = rooms::bytes();
     let mut map = rooms::cells();
     let mut verdicts = rooms::cells();
     all_events(
+        rt,
         events,
         bytes,
         &mut contents[0..514],
         &mut body[0..16384],
         &mut map[0..16384],
         &mut verdicts[0..192],
-    );
+    )
 }
 
-fn events_case(case: &[u8]) -> usize {
+fn events_case(rt: &impl Print, case: &[u8]) -> io::Result<usize> {
     let mut room = rooms::bytes();
     let laid = pieces::lay(given::rest(case, 1), &mut room);
     let events = given::rest(case, 1 + laid.read);
-    over_memory(events, given::part(&room, 0, laid.reach));
-    3 + laid.read + 4 * (given::number(events, 0) as usize)
+    over_memory(rt, events, given::part(&room, 0, laid.reach))?;
+    Ok(3 + laid.read + 4 * (given::number(events, 0) as usize))
 }
 
 // The case at the beginning; how many bytes that is, 0 where it is of no kind.
-fn ask_case(case: &[u8]) -> usize {
+fn ask_case(rt: &impl Print, case: &[u8]) -> io::Result<usize> {
     if given::byte(case, 0) == 0x41 {
-        return events_case(case);
+        return events_case(rt, case);
     }
-    0
+    Ok(0)
 }
 
-fn ask_all(cases: &[u8]) {
+fn ask_all(rt: &impl Print, cases: &[u8]) -> io::Result<()> {
     let mut at: usize = 0;
     while at < cases.len() {
-        let read = ask_case(given::rest(cases, at));
-        at = said::line(cases, at, read);
+        let read = ask_case(rt, given::rest(cases, at))?;
+        at = said::line(rt, cases, at, read)?;
     }
+    Ok(())
 }
 
-fn main() {
+fn main(rt: HostRuntime) -> io::Result<()> {
     let mut cases = rooms::sheet();
-    let n = io::read_full(STDIN_FILENO, &mut cases);
-    ask_all(&cases[0..n]);
+    let n = input::read_full(&mut rt.reader(), &mut cases)?;
+    ask_all(&rt, &cases[0..n])
 }

@@ -5,15 +5,15 @@
 
 use encoder::Encoded;
 use isa::Instruction;
-use libc::STDIN_FILENO;
 use shapes::Shape;
+use std::io;
 use vectors::{given, rooms, said};
 
-fn decode_case(case: &[u8]) -> usize {
+fn decode_case(rt: &impl Print, case: &[u8]) -> io::Result<usize> {
     let n = given::number(case, 1) as usize;
     let address = given::long(case, 3) as usize;
-    said::decoded(decoder::decode(given::part(case, 7, n), address));
-    7 + n
+    said::decoded(rt, decoder::decode(given::part(case, 7, n), address))?;
+    Ok(7 + n)
 }
 
 fn instruction_in(case: &[u8]) -> Instruction {
@@ -29,69 +29,70 @@ fn instruction_in(case: &[u8]) -> Instruction {
     }
 }
 
-fn say_encoded(answer: Encoded) {
+fn say_encoded(rt: &impl Print, answer: Encoded) -> io::Result<()> {
     match answer {
-        Encoded::Written(n) => said::ok(n),
-        Encoded::Refused(n) => said::refused(n),
+        Encoded::Written(n) => said::ok(rt, n),
+        Encoded::Refused(n) => said::refused(rt, n),
     }
 }
 
-fn ask_encode(i: Instruction, room: &mut [u8]) {
+fn ask_encode(rt: &impl Print, i: Instruction, room: &mut [u8]) -> io::Result<()> {
     let answer = encoder::encode(i, room);
-    say_encoded(answer);
-    said::bytes(room, 65600);
+    say_encoded(rt, answer)?;
+    said::bytes(rt, room, 65600)
 }
 
-fn encode_case(case: &[u8]) -> usize {
+fn encode_case(rt: &impl Print, case: &[u8]) -> io::Result<usize> {
     let n = given::number(case, 14) as usize;
     let mut room = rooms::bytes();
     let end = given::bytes(given::part(case, 16, n), n, &mut room);
-    ask_encode(instruction_in(case), &mut room[0..end]);
-    16 + n
+    ask_encode(rt, instruction_in(case), &mut room[0..end])?;
+    Ok(16 + n)
 }
 
-fn say_shape(shape: Shape) {
+fn say_shape(rt: &impl Print, shape: Shape) -> io::Result<()> {
     match shape {
         Shape::Row(length, taken, pushed) => {
-            said::text(b"row");
-            said::number(length);
-            said::number(taken);
-            said::number(pushed);
+            said::text(rt, b"row")?;
+            said::number(rt, length)?;
+            said::number(rt, taken)?;
+            said::number(rt, pushed)
         }
-        Shape::Illegal => said::text(b"illegal"),
+        Shape::Illegal => said::text(rt, b"illegal"),
     }
 }
 
-fn shape_case(case: &[u8]) -> usize {
-    say_shape(shapes::shape_of(given::byte(case, 1)));
-    2
+fn shape_case(rt: &impl Print, case: &[u8]) -> io::Result<usize> {
+    say_shape(rt, shapes::shape_of(given::byte(case, 1)))?;
+    Ok(2)
 }
 
 // The case at the beginning; how many bytes that is, 0 where it is of no kind.
-fn ask_case(case: &[u8]) -> usize {
+fn ask_case(rt: &impl Print, case: &[u8]) -> io::Result<usize> {
     let kind = given::byte(case, 0);
     if kind == 0x44 {
-        return decode_case(case);
+        return decode_case(rt, case);
     }
     if kind == 0x45 {
-        return encode_case(case);
+        return encode_case(rt, case);
     }
     if kind == 0x53 {
-        return shape_case(case);
+        return shape_case(rt, case);
     }
-    0
+    Ok(0)
 }
 
-fn ask_all(cases: &[u8]) {
+fn ask_all(rt: &impl Print, cases: &[u8]) -> io::Result<()> {
     let mut at: usize = 0;
     while at < cases.len() {
-        let read = ask_case(given::rest(cases, at));
-        at = said::line(cases, at, read);
+        let read = ask_case(rt, given::rest(cases, at))?;
+        at = said::line(rt, cases, at, read)?;
     }
+    Ok(())
 }
 
-fn main() {
+fn main(rt: HostRuntime) -> io::Result<()> {
     let mut cases = rooms::sheet();
-    let n = io::read_full(STDIN_FILENO, &mut cases);
-    ask_all(&cases[0..n]);
+    let n = input::read_full(&mut rt.reader(), &mut cases)?;
+    ask_all(&rt, &cases[0..n])
 }

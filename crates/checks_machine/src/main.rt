@@ -5,39 +5,39 @@
 // is longer than what is given of it repeats that.
 #![tactic(auto)]
 
-ghost use Rattle.std.specs.Prelude.{◌≤◌};
+ghost use Rattle.std.specs.Prelude.{◌≤◌, IfOk};
 
-use libc::STDIN_FILENO;
 use machine::{Ran, State, Status};
+use std::io;
 use vectors::{given, rooms, said};
 
-fn say_status(status: Status) {
+fn say_status(rt: &impl Print, status: Status) -> io::Result<()> {
     match status {
-        Status::Running => said::text(b" running"),
-        Status::Halted => said::text(b" halted"),
+        Status::Running => said::text(rt, b" running"),
+        Status::Halted => said::text(rt, b" halted"),
         Status::Faulted(n) => {
-            said::text(b" faulted:");
-            said::decimal(n);
+            said::text(rt, b" faulted:")?;
+            said::decimal(rt, n)
         }
     }
 }
 
-fn say_state(state: State) {
-    said::number(state.address);
-    said::number(state.depth);
+fn say_state(rt: &impl Print, state: State) -> io::Result<()> {
+    said::number(rt, state.address)?;
+    said::number(rt, state.depth)?;
     let status = state.status;
-    say_status(status);
+    say_status(rt, status)
 }
 
-fn say_answer(ran: Ran) {
+fn say_answer(rt: &impl Print, ran: Ran) -> io::Result<()> {
     match ran {
         Ran::Came(state, steps) => {
-            said::ok(steps as usize);
-            say_state(state);
+            said::ok(rt, steps as usize)?;
+            say_state(rt, state)
         }
         Ran::Refused(n, state) => {
-            said::refused(n);
-            say_state(state);
+            said::refused(rt, n)?;
+            say_state(rt, state)
         }
     }
 }
@@ -50,11 +50,18 @@ fn answer(program: &[u8], data: &mut [u8], cells: &mut [u16], state: State, budg
     state.run(program, data, cells, budget)
 }
 
-fn ask(program: &[u8], data: &mut [u8], cells: &mut [u16], state: State, budget: u32) {
+fn ask(
+    rt: &impl Print,
+    program: &[u8],
+    data: &mut [u8],
+    cells: &mut [u16],
+    state: State,
+    budget: u32,
+) -> io::Result<()> {
     let ran = answer(program, data, cells, state, budget);
-    say_answer(ran);
-    said::bytes(data, 65600);
-    said::cells(cells, 65600);
+    say_answer(rt, ran)?;
+    said::bytes(rt, data, 65600)?;
+    said::cells(rt, cells, 65600)
 }
 
 fn status_of(kind: u8, fault: u8) -> Status {
@@ -78,8 +85,8 @@ fn state_in(bytes: &[u8]) -> State {
 }
 
 // A case from its cells on; how many bytes that is.
-fn ask_cells(program: &[u8], data: &mut [u8], case: &[u8]) -> usize
-    ensures { result ≤ 131086 }
+fn ask_cells(rt: &impl Print, program: &[u8], data: &mut [u8], case: &[u8]) -> io::Result<usize>
+    ensures { IfOk result (λ n. n ≤ 131086) }
 {
     let n = 2 * (given::number(case, 2) as usize);
     let end = 4 + n;
@@ -91,18 +98,19 @@ fn ask_cells(program: &[u8], data: &mut [u8], case: &[u8]) -> usize
     );
     let state = state_in(given::rest(case, end));
     ask(
+        rt,
         program,
         data,
         &mut cells[0..size],
         state,
         given::long(case, end + 8),
-    );
-    end + 12
+    )?;
+    Ok(end + 12)
 }
 
 // A case from its data on.
-fn ask_data(program: &[u8], case: &[u8]) -> usize
-    ensures { result ≤ 196627 }
+fn ask_data(rt: &impl Print, program: &[u8], case: &[u8]) -> io::Result<usize>
+    ensures { IfOk result (λ n. n ≤ 196627) }
 {
     let n = given::number(case, 4) as usize;
     let end = 6 + n;
@@ -112,13 +120,14 @@ fn ask_data(program: &[u8], case: &[u8]) -> usize
         given::long(case, 0) as usize,
         &mut data,
     );
-    end + ask_cells(program, &mut data[0..size], given::rest(case, end))
+    let read = ask_cells(rt, program, &mut data[0..size], given::rest(case, end))?;
+    Ok(end + read)
 }
 
 // The case at the beginning; how many bytes that is, 0 where it is of no kind.
-fn ask_case(case: &[u8]) -> usize {
+fn ask_case(rt: &impl Print, case: &[u8]) -> io::Result<usize> {
     if given::byte(case, 0) != 0x52 {
-        return 0;
+        return Ok(0);
     }
     let n = given::number(case, 3) as usize;
     let end = 5 + n;
@@ -128,19 +137,21 @@ fn ask_case(case: &[u8]) -> usize {
         given::number(case, 1) as usize,
         &mut program,
     );
-    end + ask_data(&program[0..size], given::rest(case, end))
+    let read = ask_data(rt, &program[0..size], given::rest(case, end))?;
+    Ok(end + read)
 }
 
-fn ask_all(cases: &[u8]) {
+fn ask_all(rt: &impl Print, cases: &[u8]) -> io::Result<()> {
     let mut at: usize = 0;
     while at < cases.len() {
-        let read = ask_case(given::rest(cases, at));
-        at = said::line(cases, at, read);
+        let read = ask_case(rt, given::rest(cases, at))?;
+        at = said::line(rt, cases, at, read)?;
     }
+    Ok(())
 }
 
-fn main() {
+fn main(rt: HostRuntime) -> io::Result<()> {
     let mut cases = rooms::sheet();
-    let n = io::read_full(STDIN_FILENO, &mut cases);
-    ask_all(&cases[0..n]);
+    let n = input::read_full(&mut rt.reader(), &mut cases)?;
+    ask_all(&rt, &cases[0..n])
 }

@@ -4,32 +4,32 @@
 // repeats that.
 #![tactic(auto)]
 
-use libc::STDIN_FILENO;
+use std::io;
 use vectors::{given, pieces, rooms, said};
 use verifier::Verdict;
 
-fn say_verdict(verdict: Verdict) {
+fn say_verdict(rt: &impl Print, verdict: Verdict) -> io::Result<()> {
     match verdict {
-        Verdict::Accepted => said::text(b"accepted"),
+        Verdict::Accepted => said::text(rt, b"accepted"),
         Verdict::Refused(n) => {
-            said::refused(n);
-            said::text(b" -");
+            said::refused(rt, n)?;
+            said::text(rt, b" -")
         }
         Verdict::RefusedAt(n, address) => {
-            said::refused(n);
-            said::number(address);
+            said::refused(rt, n)?;
+            said::number(rt, address)
         }
     }
 }
 
-fn ask(program: &[u8], cells: usize, map: &mut [u16]) {
+fn ask(rt: &impl Print, program: &[u8], cells: usize, map: &mut [u16]) -> io::Result<()> {
     let verdict = verifier::verify(program, cells, map);
-    say_verdict(verdict);
-    said::cells(map, 256);
+    say_verdict(rt, verdict)?;
+    said::cells(rt, map, 256)
 }
 
 // Asks with the map of a case, of which n bytes are given.
-fn ask_with(program: &[u8], case: &[u8], n: usize) {
+fn ask_with(rt: &impl Print, program: &[u8], case: &[u8], n: usize) -> io::Result<()> {
     let cells = given::long(case, 1) as usize;
     let mut map = rooms::cells();
     let end = given::cells(
@@ -37,32 +37,33 @@ fn ask_with(program: &[u8], case: &[u8], n: usize) {
         given::long(case, 5) as usize,
         &mut map,
     );
-    ask(program, cells, &mut map[0..end]);
+    ask(rt, program, cells, &mut map[0..end])
 }
 
 // The case at the beginning; how many bytes that is, 0 where it is of no kind.
-fn ask_case(case: &[u8]) -> usize {
+fn ask_case(rt: &impl Print, case: &[u8]) -> io::Result<usize> {
     if given::byte(case, 0) != 0x56 {
-        return 0;
+        return Ok(0);
     }
     let n = 2 * (given::number(case, 9) as usize);
     let end = 11 + n;
     let mut room = rooms::bytes();
     let laid = pieces::lay(given::rest(case, end), &mut room);
-    ask_with(given::part(&room, 0, laid.reach), case, n);
-    end + laid.read
+    ask_with(rt, given::part(&room, 0, laid.reach), case, n)?;
+    Ok(end + laid.read)
 }
 
-fn ask_all(cases: &[u8]) {
+fn ask_all(rt: &impl Print, cases: &[u8]) -> io::Result<()> {
     let mut at: usize = 0;
     while at < cases.len() {
-        let read = ask_case(given::rest(cases, at));
-        at = said::line(cases, at, read);
+        let read = ask_case(rt, given::rest(cases, at))?;
+        at = said::line(rt, cases, at, read)?;
     }
+    Ok(())
 }
 
-fn main() {
+fn main(rt: HostRuntime) -> io::Result<()> {
     let mut cases = rooms::sheet();
-    let n = io::read_full(STDIN_FILENO, &mut cases);
-    ask_all(&cases[0..n]);
+    let n = input::read_full(&mut rt.reader(), &mut cases)?;
+    ask_all(&rt, &cases[0..n])
 }

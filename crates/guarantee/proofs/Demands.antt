@@ -28,7 +28,7 @@ use Rattle.meeting.specs.Clash.{two_depths}
 use Rattle.verifier.specs.Verify.{nameless, on_walk, verify_of}
 use Rattle.verifier.proofs.Verdicts as verdicts
 use Rattle.verifier.proofs.Numbers.{verify-number}
-use Rattle.safety.specs.Sealed.{Sealed, Safe}
+use Rattle.safety.specs.Sealed.{Sealed}
 use Rattle.safety.proofs.Safety.{fresh-safe, resumed-safe}
 use Rattle.guarantee.proofs.Verdicts.{accepted-marks, refused-walk, early-refused, final-sealed, answer}
 use Rattle.guarantee.proofs.Faults.{run-faulted-by, fault-alters, unread-alters}

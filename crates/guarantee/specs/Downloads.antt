@@ -6,7 +6,7 @@
 -- `m` is an admission with its lent memory, `Begun` says that it was begun and has enough of it, whatever it holds; `admit_all cs m` is it after the
 -- chunks `cs`, and `joined cs` are all their bytes. What a whole pack answers is `rulings_of`: the refusal of its check, or for each program the tag and what
 -- the verifier says.
-use Rattle.std.specs.Prelude.{ℕ, ◌+◌, ◌≤◌, ◌<◌, ◌≡◌, ◌⊎◌, true, false, List, map, ◌++◌, length, take}
+use Rattle.std.specs.Prelude.{ℕ, ◌≤◌, ◌<◌, ◌≡◌, ◌⊎◌, true, false, List, map, ◌++◌, length, take}
 use Rattle.std.proofs.Math.Option.{some}
 use Rattle.std.proofs.Math.ListN.{get_elem?}
 use Rattle.basis.specs.Answer.{given, refused}

@@ -1,13 +1,13 @@
 -- The marked examples of 01, M1 to M12, one table; M12 as request No. 2 has it.
 use Rattle.std.specs.Prelude.{ℕ, suc, ◌≤◌, ◌≡◌, List, [], ◌∷◌, length, replicate}
-use Rattle.basis.specs.Answer.{Answer, given, refused}
+use Rattle.basis.specs.Answer.{Answer, refused}
 use Rattle.decoder.specs.Decode.{Reading, decode_of}
-use Rattle.machine.specs.Machine.{Machine, machine, fresh}
+use Rattle.machine.specs.Machine.{machine, fresh}
 use Rattle.machine.specs.Run.{Outcome, came, outcome_of}
 use Rattle.verifier.specs.Verify.{good, names, Verified, verify_of}
 use Rattle.machine.specs.declared.State.{State}
 use Rattle.machine.specs.declared.Status.{Status}
-use Rattle.machine.specs.declared.Status.TheVariants.{Running, Halted, Faulted}
+use Rattle.machine.specs.declared.Status.TheVariants.{Halted, Faulted}
 
 -- an example: a program and what the decoder answers at its address 0; a program, data and cells, and what a run of a thousand
 -- steps from a fresh state hands back; or a program and a number of cells, and what the verifier answers and leaves in a map of zeros

@@ -4,7 +4,6 @@ use Rattle.effects.specs.Act.{Done, act_of}
 use Rattle.effects.specs.declared.Move.{Move}
 use Rattle.effects.specs.declared.Move.TheVariants.{To, Halt, Fault}
 use Rattle.machine.specs.declared.State.{State}
-use Rattle.machine.specs.declared.Status.{Status}
 use Rattle.machine.specs.declared.Status.TheVariants.{Running, Halted, Faulted}
 
 -- the state, the data and the stack cells

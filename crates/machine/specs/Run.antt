@@ -2,7 +2,6 @@
 use Rattle.std.specs.Prelude.{ℕ, zero, suc, ◌+◌, Bool, true, false, List, length, ltb}
 use Rattle.basis.specs.Pick.{pick}
 use Rattle.machine.specs.Machine.{Machine, machine, step_of}
-use Rattle.machine.specs.declared.State.{State}
 use Rattle.machine.specs.declared.Status.{Status}
 use Rattle.machine.specs.declared.Status.TheVariants.{Running, Halted, Faulted}
 use Rattle.machine.specs.declared.Ran.{Ran}

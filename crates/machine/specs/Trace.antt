@@ -1,5 +1,5 @@
 -- The steps of a run, one by one: what "the count is the number of steps taken" says.
-use Rattle.std.specs.Prelude.{ℕ, suc, ◌+◌, ◌<◌, ◌≡◌, Bool, true, false, List}
+use Rattle.std.specs.Prelude.{ℕ, suc, ◌+◌, ◌≡◌, Bool, true, false, List}
 use Rattle.machine.specs.Machine.{Machine, step_of}
 use Rattle.machine.specs.Run.{is_running, is_faulted}
 

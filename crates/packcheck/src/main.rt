@@ -1,25 +1,23 @@
 // Reads a rule pack on standard input and prints what the verifier says of each program, or what refuses the pack.
 #![tactic(auto)]
 
-use libc::{STDIN_FILENO, STDOUT_FILENO};
 use report::Reported;
+use std::io;
 
 // Prints the report on a pack; the room has place for the longest.
-fn say(pack: &[u8], map: &mut [u16]) {
+fn say(rt: &impl Print, pack: &[u8], map: &mut [u16]) -> io::Result<()> {
     let mut room = [0u8; 1536];
     let reported = report::write(pack, map, &mut room);
     match reported {
-        Reported::Written(n) => {
-            io::write_all(STDOUT_FILENO, &room[0..n]);
-        }
-        Reported::Refused(_) => {}
+        Reported::Written(n) => rt.write_all(&room[0..n]),
+        Reported::Refused(_) => Ok(()),
     }
 }
 
 // One byte more than the longest pack is read, so that a longer one is noticed.
-fn main() {
+fn main(rt: HostRuntime) -> io::Result<()> {
     let mut pack = [0u8; 24577];
-    let n = io::read_full(STDIN_FILENO, &mut pack);
+    let n = input::read_full(&mut rt.reader(), &mut pack)?;
     let mut map = [65535u16; 16384];
-    say(&pack[0..n], &mut map);
+    say(&rt, &pack[0..n], &mut map)
 }

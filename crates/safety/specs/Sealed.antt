@@ -3,7 +3,7 @@ use Rattle.std.specs.Prelude.{◌≡◌, ◌⊎◌, ◌≢◌, List, ℕ, get_or
 use Rattle.machine.specs.Machine.{Machine}
 use Rattle.machine.specs.declared.Status.{Status}
 use Rattle.machine.specs.declared.Status.TheVariants.{Running, Halted, Faulted}
-use Rattle.paths.specs.Paths.{Hop, Outcome, leads, In}
+use Rattle.paths.specs.Paths.{Hop, leads, In}
 use Rattle.look.specs.Look.{look_of}
 
 -- address 0 is marked with depth 0; every marked address, at its depth, is a good instruction for so many cells, and each

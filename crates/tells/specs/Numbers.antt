@@ -7,13 +7,9 @@ use Rattle.shapes.specs.Shapes.{shape_of}
 use Rattle.machine.specs.Machine.{machine}
 use Rattle.machine.specs.Run.{outcome_of}
 use Rattle.verifier.specs.Verify.{verify_of}
-use Rattle.pack.specs.declared.Entry.{Entry}
 use Rattle.answers.specs.declared.KhxState.{KhxState}
 use Rattle.answers.specs.declared.KhxRan.{KhxRan}
-use Rattle.answers.specs.declared.KhxVerdict.{KhxVerdict}
 use Rattle.answers.specs.declared.KhxInstruction.{KhxInstruction}
-use Rattle.answers.specs.declared.KhxDecoded.{KhxDecoded}
-use Rattle.answers.specs.declared.KhxRow.{KhxRow}
 use Rattle.answers.specs.declared.KhxEntry.{KhxEntry}
 use Rattle.answers.specs.declared.KhxAdmitted.{KhxAdmitted}
 use Rattle.answers.specs.Runs.{state_of, ran_in}

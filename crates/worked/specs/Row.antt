@@ -1,5 +1,5 @@
 -- The shapes that rows of many operations share: the operands pushed, the instruction, a halt.
-use Rattle.std.specs.Prelude.{ℕ, ◌/◌, ◌%◌, List, [], ◌∷◌}
+use Rattle.std.specs.Prelude.{ℕ, ◌/◌, ◌%◌, [], ◌∷◌}
 use Rattle.machine.specs.Machine.{machine}
 use Rattle.machine.specs.Run.{came}
 use Rattle.machine.specs.declared.Status.TheVariants.{Halted}

@@ -1,9 +1,9 @@
 -- Budgets, states handed in again, and what is refused before a step.
-use Rattle.std.specs.Prelude.{ℕ, ◌≡◌, List, [], ◌∷◌, replicate}
+use Rattle.std.specs.Prelude.{ℕ, ◌≡◌, [], ◌∷◌, replicate}
 use Rattle.basis.specs.Answer as answer
 use Rattle.decoder.specs.Decode.{decode_of}
 use Rattle.machine.specs.Machine.{Machine, machine, fresh}
-use Rattle.machine.specs.Run.{Outcome, came, refused, outcome_of}
+use Rattle.machine.specs.Run.{came, refused, outcome_of}
 use Rattle.verifier.specs.Verify.{good, names, nameless, verify_of}
 use Rattle.machine.specs.declared.Status.TheVariants.{Running, Halted, Faulted}
 use Rattle.guarantee.specs.Marked.{at}

@@ -2,7 +2,6 @@
 -- Assumes nothing.
 use Rattle.admission.specs.Admission.{ask_of}
 use borrow.Author.Tests.{eq-eqb, ne_eqb}
-use borrow.Author.Rules.{rules}
 use Rattle.admission.proofs.ask.Goals as goal
 
 pub returns-then-damaged : goal.returns-then-damaged

@@ -1,7 +1,6 @@
 -- `admission::damaged` meets its contract.
 -- Assumes nothing.
 use Rattle.admission.specs.Numbers.{damaged_of}
-use borrow.Author.Rules.{rules}
 use Rattle.admission.proofs.damaged.Goals as goal
 
 pub returns-then-wild : goal.returns-then-wild

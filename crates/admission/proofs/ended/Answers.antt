@@ -2,7 +2,6 @@
 -- Assumes nothing.
 use Rattle.admission.specs.Admission.{ended_of}
 use borrow.Author.Tests.{ne_eqb}
-use borrow.Author.Rules.{rules}
 use Rattle.admission.proofs.ended.Goals as goal
 
 pub returns-then-refusal-ne0 : goal.returns-then-refusal-ne0

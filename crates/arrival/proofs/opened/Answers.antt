@@ -4,7 +4,6 @@ use Rattle.admission.specs.Admission.{opened_of}
 use Rattle.pack.specs.Contents.{bodies_answer}
 use borrow.Author.Tests.{eq-eqb, ne_eqb}
 use mathlib.Core.Path.{sym, ap, ◌∙◌}
-use borrow.Author.Rules.{rules}
 use Rattle.arrival.proofs.opened.Goals as goal
 
 pub returns-then-st : goal.returns-then-st

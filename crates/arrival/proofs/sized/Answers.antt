@@ -2,7 +2,6 @@
 -- Assumes nothing.
 use Rattle.admission.specs.Admission.{sized_of}
 use borrow.Author.Tests.{lt-ltb, le-ltb, eq-eqb, ne_eqb}
-use borrow.Author.Rules.{rules}
 use Rattle.arrival.proofs.sized.Goals as goal
 
 pub returns-then-st-ne2 : goal.returns-then-st-ne2

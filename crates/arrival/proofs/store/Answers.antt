@@ -1,10 +1,8 @@
 -- `arrival::store` meets its contract.
 -- Assumes nothing.
-use native.Mathlib.Omega.{arith}
 use mathlib.Core.Path.{refl}
 use Rattle.admission.specs.Admission.{mach}
 use Rattle.arrival.proofs.Runs.{stored-contents, stored-body, of-contents, of-body}
-use borrow.Author.Rules.{rules}
 use Rattle.arrival.proofs.store.Goals as goal
 
 pub returns-then-k-st : goal.returns-then-k-st

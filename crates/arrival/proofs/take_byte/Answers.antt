@@ -2,9 +2,8 @@
 -- Assumes nothing.
 use native.Mathlib.Omega.{arith}
 use Rattle.arrival.proofs.Bytes.{byte-over, byte-contents, byte_past, byte_full, byte-body}
-use Rattle.admission.proofs.Fits.{learnt-fit, grown-fit}
+use Rattle.admission.proofs.Fits.{learnt-fit}
 use Rattle.admission.specs.Admission.{mach}
-use borrow.Author.Rules.{rules}
 use Rattle.arrival.proofs.take_byte.Goals as goal
 
 pub returns-then-k-ge24576 : goal.returns-then-k-ge24576

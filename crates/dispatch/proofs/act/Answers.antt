@@ -1,8 +1,7 @@
 -- `dispatch::act` meets its contract: at the program's end it is fault 1, and else the instruction is told by its first byte.
 -- Assumes nothing.
 use native.Mathlib.Omega.{arith}
-use mathlib.Core.Path.{refl, sym, ◌∙◌}
-use borrow.Author.Rules.{rules}
+use mathlib.Core.Path.{sym, ◌∙◌}
 use Rattle.dispatch.proofs.First.{act-first, act-end}
 use Rattle.dispatch.proofs.act.Goals as goal
 

@@ -1,7 +1,6 @@
 -- `face_admission::khx_admit_start` meets its contract.
 -- Assumes nothing.
 use Rattle.face_admission.proofs.Faces.{start-few, start-all}
-use borrow.Author.Rules.{rules}
 use Rattle.face_admission.proofs.khx_admit_start.Goals as goal
 
 pub returns-then-numbers-lt8 : goal.returns-then-numbers-lt8

@@ -2,7 +2,6 @@
 -- Assumes nothing.
 use borrow.Author.Tests.{lt-ltb, le-ltb}
 use Rattle.answers.specs.Admissions.{told_in}
-use borrow.Author.Rules.{rules}
 use Rattle.face_admission.proofs.told.Goals as goal
 
 pub returns-then-refusal-ge90 : goal.returns-then-refusal-ge90

@@ -4,7 +4,6 @@ use mathlib.Core.Path.{sym, ◌∙◌}
 use Rattle.admission.specs.Admission.{mach}
 use Rattle.admission.proofs.Tests.{tests-fit}
 use Rattle.intake.proofs.Chunks.{chunk-short, chunk-damaged, chunk-late, chunk-taken}
-use borrow.Author.Rules.{rules}
 use Rattle.intake.proofs.chunk.Goals as goal
 
 pub returns-then-short : goal.returns-then-short

@@ -2,13 +2,11 @@
 -- Assumes nothing.
 use Rattle.intake.proofs.Chunks.{chunk-more}
 use Rattle.admission.proofs.Fits.{chunk-fit}
-use Rattle.admission.specs.Admission.{mach, chunk_of}
+use Rattle.admission.specs.Admission.{mach}
 use Rattle.admission.specs.Fit.{Fit}
 use Rattle.basis.proofs.Stores.{tail}
-use borrow.Author.Rules.{rules}
-use lib.ListN.{length, take, drop, drop_of_length-le, length-drop}
-use mathlib.Core.Path.{◌≡◌, refl, sym, subst}
-use Prim.Native.Nat.{◌-◌, ◌≤◌}
+use lib.ListN.{take, drop, length-drop}
+use mathlib.Core.Path.{sym, subst}
 use native.Mathlib.Omega.{arith}
 use Rattle.intake.proofs.take_chunk.Goals as goal
 

@@ -1,15 +1,10 @@
 -- `intake::take_chunk` meets its contract.
 -- Assumes nothing.
-use Rattle.intake.proofs.Chunks.{chunk-more}
-use Rattle.admission.proofs.Fits.{chunk-fit}
 use Rattle.admission.specs.Admission.{mach, chunk_of}
 use Rattle.admission.specs.Fit.{Fit}
-use Rattle.basis.proofs.Stores.{tail}
-use borrow.Author.Rules.{rules}
-use lib.ListN.{length, take, drop, drop_of_length-le, length-drop}
-use mathlib.Core.Path.{◌≡◌, refl, sym, subst}
+use lib.ListN.{length, drop}
+use mathlib.Core.Path.{◌≡◌}
 use Prim.Native.Nat.{◌-◌, ◌≤◌}
-use native.Mathlib.Omega.{arith}
 use Rattle.intake.proofs.take_chunk.Given as goal
 
 abbrev pub invariant-loop-i : goal.invariant-loop-i

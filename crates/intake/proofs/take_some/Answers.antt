@@ -1,14 +1,9 @@
 -- `intake::take_some` meets its contract.
 -- Assumes nothing.
-use Prim.Native.Nat.{ℕ, ◌-◌}
 use native.Mathlib.Omega.{arith}
-use mathlib.Core.Path.{◌≡◌, sym, ◌∙◌, subst}
-use lib.ListN.{length, take}
-use lib.Seq.{length-take-le}
+use mathlib.Core.Path.{sym, ◌∙◌}
 use Rattle.admission.specs.Admission.{mach}
-use Rattle.arrival.specs.Plain.{Plain}
-use Rattle.intake.proofs.Chunks.{some-idle, some_byte, some_stored}
-use borrow.Author.Rules.{rules}
+use Rattle.intake.proofs.Chunks.{some-idle}
 use Rattle.intake.proofs.take_some.Goals as goal
 
 pub returns-then-idle : goal.returns-then-idle

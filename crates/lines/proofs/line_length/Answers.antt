@@ -3,7 +3,6 @@
 use native.Mathlib.Omega.{arith}
 use Rattle.decoder.specs.Decode.{decoded_answer}
 use Rattle.lines.proofs.Written.{length-line}
-use borrow.Author.Rules.{rules}
 use Rattle.lines.proofs.line_length.Goals as goal
 
 pub returns : goal.returns

@@ -5,7 +5,6 @@ use mathlib.Core.Path.{ap}
 use lib.ListN.{length, length-append}
 use Rattle.text.proofs.Puts.{put-append}
 use Rattle.lines.proofs.Written.{said_read, said-byte}
-use borrow.Author.Rules.{rules}
 use Rattle.lines.proofs.put_said.Goals as goal
 
 pub put_name-next-requires : goal.put_name-next-requires

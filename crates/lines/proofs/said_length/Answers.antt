@@ -3,7 +3,6 @@
 use native.Mathlib.Omega.{arith}
 use lib.ListN.{length-append}
 use Rattle.lines.proofs.Written.{said_read, said-byte}
-use borrow.Author.Rules.{rules}
 use Rattle.lines.proofs.said_length.Goals as goal
 
 pub returns-in-Read : goal.returns-in-Read

@@ -8,7 +8,6 @@ use borrow.Author.Tests.{lt-ltb, le-ltb}
 use Rattle.basis.specs.Answer.{given}
 use Rattle.basis.proofs.Stores.{sets-start}
 use Rattle.listing.specs.Listing.{listing_of, list_of}
-use borrow.Author.Rules.{rules}
 use Rattle.listing.proofs.list.Goals as goal
 
 pub returns-then-program-gt16384 : goal.returns-then-program-gt16384

@@ -1,15 +1,12 @@
 -- `listing::put_lines` meets its contract.
 -- Assumes nothing.
-use Prim.Native.Nat.{◌+◌, ◌-◌, ◌≤◌}
 use native.Mathlib.Omega.{arith}
-use mathlib.Core.Path.{◌≡◌, refl, ap, ◌∙◌}
-use lib.ListN.{length, get_or, drop, length-append}
-use lib.Seq.{sets}
+use mathlib.Core.Path.{◌≡◌, ap, ◌∙◌}
+use lib.ListN.{length, get_or, length-append}
 use Rattle.decoder.specs.Decode.{decode_of, decoded_answer}
 use Rattle.text.specs.Put.{Put}
 use Rattle.lines.specs.Line.{step_of, line_of}
 use Rattle.lines.proofs.Written.{length-any}
-use Rattle.listing.specs.Listing.{lines_of, listing_of}
 use Rattle.listing.proofs.Listings.{lines-put, step_fits, lines_step, lines_end}
 use Rattle.listing.proofs.put_lines.Goals as goal
 

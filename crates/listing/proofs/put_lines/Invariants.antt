@@ -1,16 +1,10 @@
 -- `listing::put_lines` meets its contract.
 -- Assumes nothing.
 use Prim.Native.Nat.{◌+◌, ◌-◌, ◌≤◌}
-use native.Mathlib.Omega.{arith}
-use mathlib.Core.Path.{◌≡◌, refl, ap, ◌∙◌}
-use lib.ListN.{length, get_or, drop, length-append}
+use mathlib.Core.Path.{◌≡◌}
+use lib.ListN.{length, drop}
 use lib.Seq.{sets}
-use Rattle.decoder.specs.Decode.{decode_of, decoded_answer}
-use Rattle.text.specs.Put.{Put}
-use Rattle.lines.specs.Line.{step_of, line_of}
-use Rattle.lines.proofs.Written.{length-any}
 use Rattle.listing.specs.Listing.{lines_of, listing_of}
-use Rattle.listing.proofs.Listings.{lines-put, step_fits, lines_step, lines_end}
 use Rattle.listing.proofs.put_lines.Given as goal
 
 abbrev pub invariant-loop-at : goal.invariant-loop-at

@@ -1,9 +1,8 @@
 -- `reader::turn_at` meets its contract.
 -- Assumes nothing.
 use native.Mathlib.Omega.{arith}
-use borrow.Author.Rules.{rules}
 use Rattle.decoder.proofs.Lengths.{read_length}
-use Rattle.reader.proofs.Turns.{decoded-read, turn-read, turn-refused}
+use Rattle.reader.proofs.Turns.{decoded-read}
 use Rattle.reader.proofs.turn_at.Goals as goal
 
 pub overflow_add-result : goal.overflow_add-result

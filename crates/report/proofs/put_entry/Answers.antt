@@ -1,9 +1,6 @@
 -- `report::put_entry` meets its contract.
 -- Assumes nothing.
-use mathlib.Core.Path.{sym}
-use lib.Seq.{length-take-le}
 use Rattle.report.proofs.Entries.{put-judged, entry_done}
-use borrow.Author.Rules.{rules}
 use Rattle.report.proofs.put_entry.Goals as goal
 
 pub returns : goal.returns

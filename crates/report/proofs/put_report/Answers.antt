@@ -1,14 +1,11 @@
 -- `report::put_report` meets its contract.
 -- Assumes nothing.
 use native.Mathlib.Omega.{arith}
-use Prim.Native.Nat.{◌-◌, ◌*◌, ◌≤◌}
-use mathlib.Core.Path.{◌≡◌, refl, sym, ap, ◌∙◌}
-use lib.ListN.{length}
+use mathlib.Core.Path.{refl, sym, ap, ◌∙◌}
 use Rattle.pack.specs.Read.{listed_answer}
 use Rattle.rulings.specs.Rulings.{judged_of}
 use Rattle.verdicts.proofs.Lines.{length-line, length-pack-line}
-use Rattle.report.proofs.Reports.{Left, left-start, entered, left-next, left-past, left_alone, left-refused}
-use borrow.Author.Rules.{rules}
+use Rattle.report.proofs.Reports.{left-start, entered, left-next, left-past, left_alone, left-refused}
 use Rattle.report.proofs.put_report.Goals as goal
 
 pub loop-e-init : goal.loop-e-init

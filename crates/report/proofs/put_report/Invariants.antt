@@ -1,14 +1,9 @@
 -- `report::put_report` meets its contract.
 -- Assumes nothing.
-use native.Mathlib.Omega.{arith}
 use Prim.Native.Nat.{◌-◌, ◌*◌, ◌≤◌}
-use mathlib.Core.Path.{◌≡◌, refl, sym, ap, ◌∙◌}
+use mathlib.Core.Path.{◌≡◌}
 use lib.ListN.{length}
-use Rattle.pack.specs.Read.{listed_answer}
-use Rattle.rulings.specs.Rulings.{judged_of}
-use Rattle.verdicts.proofs.Lines.{length-line, length-pack-line}
-use Rattle.report.proofs.Reports.{Left, left-start, entered, left-next, left-past, left_alone, left-refused}
-use borrow.Author.Rules.{rules}
+use Rattle.report.proofs.Reports.{Left}
 use Rattle.report.proofs.put_report.Given as goal
 
 abbrev pub invariant-loop-e : goal.invariant-loop-e

@@ -7,7 +7,6 @@ use lib.ListN.{length}
 use Rattle.basis.specs.Answer.{given}
 use Rattle.report.specs.Report.{report_of}
 use Rattle.report.proofs.Writes.{few-cells, map-kept, map-laid, no_room, fits, copied}
-use borrow.Author.Rules.{rules}
 use Rattle.report.proofs.write.Goals as goal
 
 pub returns-then-map-lt16384 : goal.returns-then-map-lt16384

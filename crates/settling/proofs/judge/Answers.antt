@@ -1,12 +1,10 @@
 -- `settling::judge` meets its contract.
 -- Assumes nothing.
 use Prim.Native.Nat.{◌-◌}
-use mathlib.Core.Path.{◌≡◌, sym}
+use mathlib.Core.Path.{◌≡◌}
 use Rattle.settling.proofs.Settles.{judge-done}
 use Rattle.admission.specs.Admission.{mach}
-use lib.Seq.{length-take-le}
 use native.Mathlib.Omega.{arith}
-use borrow.Author.Rules.{rules}
 use Rattle.settling.proofs.judge.Goals as goal
 
 pub returns : goal.returns

@@ -1,13 +1,10 @@
 -- `settling::settle` meets its contract.
 -- Assumes nothing.
 use Rattle.admission.proofs.Fits.{judge-fit}
-use Rattle.settling.proofs.Settles.{rest_of, settle-end, settle-stop, settle-next, judge-less}
+use Rattle.settling.proofs.Settles.{settle-next, judge-less}
 use Rattle.admission.specs.Admission.{mach, settled}
 use Rattle.admission.specs.Fit.{Fit}
-use borrow.Author.Rules.{rules}
-use lib.ListN.{length}
-use mathlib.Core.Path.{◌≡◌, refl, sym, subst}
-use Prim.Native.Nat.{◌-◌}
+use mathlib.Core.Path.{refl, sym, subst}
 use native.Mathlib.Omega.{arith}
 use Rattle.settling.proofs.settle.Goals as goal
 

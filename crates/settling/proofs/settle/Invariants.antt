@@ -1,14 +1,11 @@
 -- `settling::settle` meets its contract.
 -- Assumes nothing.
-use Rattle.admission.proofs.Fits.{judge-fit}
-use Rattle.settling.proofs.Settles.{rest_of, settle-end, settle-stop, settle-next, judge-less}
+use Rattle.settling.proofs.Settles.{rest_of}
 use Rattle.admission.specs.Admission.{mach, settled}
 use Rattle.admission.specs.Fit.{Fit}
-use borrow.Author.Rules.{rules}
 use lib.ListN.{length}
-use mathlib.Core.Path.{◌≡◌, refl, sym, subst}
+use mathlib.Core.Path.{◌≡◌}
 use Prim.Native.Nat.{◌-◌}
-use native.Mathlib.Omega.{arith}
 use Rattle.settling.proofs.settle.Given as goal
 
 abbrev pub invariant-loop-now : goal.invariant-loop-now

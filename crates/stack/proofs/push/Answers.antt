@@ -5,7 +5,6 @@ use mathlib.Core.Path.{refl, sym}
 use mathlib.Core.List.{[], ◌∷◌}
 use lib.ListN.{length}
 use native.Mathlib.Omega.{arith}
-use borrow.Author.Rules.{rules}
 use Rattle.isa.specs.Op.{Push}
 use Rattle.effects.specs.Effect.{goes}
 use Rattle.effects.proofs.Opens.{full, left_one}

@@ -5,7 +5,6 @@ use Prim.Native.Nat.{ℕ, ◌-◌}
 use mathlib.Core.Path.{refl, sym, ap, ◌∙◌}
 use lib.ListN.{length, set}
 use native.Mathlib.Omega.{arith}
-use borrow.Author.Rules.{rules}
 use Rattle.isa.specs.Op.{TwoNumber}
 use Rattle.effects.specs.Act.{done}
 use Rattle.effects.specs.Effect.{goes}

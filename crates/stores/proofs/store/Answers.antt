@@ -1,7 +1,6 @@
 -- `stores::store` meets its contract: fault 6, or what `put_number` and `push` promise, by the laws of `Accesses`.
 -- Assumes nothing.
 use native.Mathlib.Omega.{arith}
-use borrow.Author.Rules.{rules}
 use Rattle.memory.proofs.Accesses.{store-fails, store-leaves}
 use Rattle.stores.proofs.store.Goals as goal
 

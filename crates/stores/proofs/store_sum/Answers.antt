@@ -1,9 +1,7 @@
 -- `stores::store_sum` meets its contract: fault 4 by `few`, else what `store` promises at n = 2.
 -- Assumes nothing.
-use mathlib.Core.Path.{refl, sym, ◌∙◌}
+use mathlib.Core.Path.{sym}
 use native.Mathlib.Omega.{arith}
-use native.Mathlib.Nat.{add-zero}
-use borrow.Author.Rules.{rules}
 use Rattle.effects.proofs.Opens.{few}
 use Rattle.isa.specs.Op.{Store}
 use Rattle.stores.proofs.store_sum.Goals as goal

@@ -2,7 +2,6 @@
 -- Assumes nothing.
 use native.Mathlib.Omega.{arith}
 use mathlib.Core.Path.{sym}
-use borrow.Author.Rules.{rules}
 use Rattle.values.proofs.Arms.{unarmed}
 use Rattle.values.proofs.push_by_first.Goals as goal
 

@@ -1,9 +1,6 @@
 -- `verdicts::put_decimal` meets its contract.
 -- Assumes nothing.
-use native.Mathlib.Omega.{arith}
-use lib.ListN.{length-set}
 use Rattle.verdicts.proofs.Lines.{put_low, put-high}
-use borrow.Author.Rules.{rules}
 use Rattle.verdicts.proofs.put_decimal.Goals as goal
 
 pub returns-then-number-lt10 : goal.returns-then-number-lt10

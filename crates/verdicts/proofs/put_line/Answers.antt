@@ -3,7 +3,6 @@
 use native.Mathlib.Omega.{arith}
 use Rattle.verifier.specs.Verify.{judged_in}
 use Rattle.verdicts.proofs.Lines.{length-said, put-line}
-use borrow.Author.Rules.{rules}
 use Rattle.verdicts.proofs.put_line.Goals as goal
 
 pub put_text-requires : goal.put_text-requires

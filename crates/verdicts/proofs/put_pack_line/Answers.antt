@@ -2,7 +2,6 @@
 -- Assumes nothing.
 use native.Mathlib.Omega.{arith}
 use Rattle.verdicts.proofs.Lines.{length-refused, put-pack-line}
-use borrow.Author.Rules.{rules}
 use Rattle.verdicts.proofs.put_pack_line.Goals as goal
 
 pub put_text-requires : goal.put_text-requires

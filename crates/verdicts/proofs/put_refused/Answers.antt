@@ -1,7 +1,6 @@
 -- `verdicts::put_refused` meets its contract.
 -- Assumes nothing.
 use Rattle.verdicts.proofs.Lines.{put_refused}
-use borrow.Author.Rules.{rules}
 use Rattle.verdicts.proofs.put_refused.Goals as goal
 
 pub returns : goal.returns

@@ -2,7 +2,6 @@
 -- Assumes nothing.
 use native.Mathlib.Omega.{arith}
 use Rattle.verdicts.proofs.Lines.{length-refused, put-refused-at}
-use borrow.Author.Rules.{rules}
 use Rattle.verdicts.proofs.put_refused_at.Goals as goal
 
 pub put_text-digits-requires : goal.put_text-digits-requires

@@ -1,7 +1,6 @@
 -- `verdicts::put_said` meets its contract.
 -- Assumes nothing.
-use Rattle.verdicts.proofs.Lines.{said-accepted, said-refused, said_at}
-use borrow.Author.Rules.{rules}
+use Rattle.verdicts.proofs.Lines.{said-accepted, said-refused}
 use Rattle.verdicts.proofs.put_said.Goals as goal
 
 pub returns-in-Accepted : goal.returns-in-Accepted

@@ -1,10 +1,8 @@
 -- `dispatch::bytes` meets its contract: each arm is what the definition computes to at its byte. Written by tools/dispatch.
 -- Assumes nothing.
-use borrow.Author.Rules.{rules}
 use Rattle.forms.specs.Form.{form_of, code_of}
 use Rattle.isa.specs.Op.{op_in}
 use Rattle.dispatch.specs.First.{first_of}
-use Rattle.dispatch.proofs.First.{up}
 use Rattle.dispatch.proofs.bytes.bytes.Goals as goal
 
 pub returns-in-37 : goal.returns-in-37

@@ -1,7 +1,6 @@
 -- `dispatch::extension_byte` meets its contract: the byte is there or cut, and the operation does the rest. Written by tools/dispatch.
 -- Assumes nothing.
 use Prim.Native.Nat.{◌+◌}
-use borrow.Author.Rules.{rules}
 use borrow.Author.Tests.{lt-ltb, le-ltb}
 use Rattle.dispatch.specs.First.{byte_of}
 use Rattle.dispatch.proofs.numbered.extension_byte.Goals as goal

@@ -1,6 +1,5 @@
 -- `dispatch::load_number_byte` meets its contract: the byte is there or cut, and the operation does the rest. Written by tools/dispatch.
 -- Assumes nothing.
-use borrow.Author.Rules.{rules}
 use borrow.Author.Tests.{lt-ltb, le-ltb}
 use Rattle.dispatch.specs.First.{byte_of}
 use Rattle.dispatch.proofs.numbered.load_number_byte.Goals as goal

@@ -1,6 +1,5 @@
 -- `dispatch::shift_byte` meets its contract: the byte is there or cut, 0 to 15 or not, and the operation does the rest. Written by tools/dispatch.
 -- Assumes nothing.
-use borrow.Author.Rules.{rules}
 use borrow.Author.Tests.{lt-ltb, le-ltb}
 use Rattle.dispatch.specs.First.{shift_of}
 use Rattle.dispatch.proofs.numbered.shift_byte.Goals as goal

@@ -1,6 +1,5 @@
 -- `dispatch::two_word` meets its contract: the word is there or cut, and the operation does the rest. Written by tools/dispatch.
 -- Assumes nothing.
-use borrow.Author.Rules.{rules}
 use borrow.Author.Tests.{lt-ltb, le-ltb}
 use Rattle.dispatch.specs.First.{word_of}
 use Rattle.dispatch.proofs.numbered.two_word.Goals as goal

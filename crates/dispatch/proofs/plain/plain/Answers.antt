@@ -1,11 +1,9 @@
 -- `dispatch::plain` meets its contract: each arm is what the definition computes to at its byte. Written by tools/dispatch.
 -- Assumes nothing.
 use Prim.Native.Nat.{◌+◌}
-use borrow.Author.Rules.{rules}
 use Rattle.forms.specs.Form.{form_of, code_of}
 use Rattle.isa.specs.Op.{op_in}
 use Rattle.dispatch.specs.First.{first_of}
-use Rattle.dispatch.proofs.First.{up}
 use Rattle.dispatch.proofs.plain.plain.Goals as goal
 
 pub returns-in-0 : goal.returns-in-0

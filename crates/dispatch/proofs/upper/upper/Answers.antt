@@ -3,7 +3,6 @@
 use Prim.Native.Nat.{ℕ}
 use native.Mathlib.Omega.{arith}
 use mathlib.Core.Path.{sym, ap, ◌∙◌}
-use borrow.Author.Rules.{rules}
 use Rattle.dispatch.specs.First.{first_of}
 use Rattle.dispatch.proofs.First.{act-first, first-illegal, first_short}
 use Rattle.dispatch.proofs.upper.upper.Goals as goal

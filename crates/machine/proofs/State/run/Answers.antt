@@ -1,7 +1,6 @@
 -- `machine::State::run` meets its contract.
 -- Assumes nothing.
 use borrow.Author.Tests.{lt-ltb, le-ltb}
-use borrow.Author.Rules.{rules}
 use Rattle.machine.specs.Run.{outcome_of}
 use Rattle.machine.proofs.State.run.Goals as goal
 

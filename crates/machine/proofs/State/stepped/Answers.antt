@@ -1,7 +1,6 @@
 -- `machine::State::stepped` meets its contract.
 -- Assumes nothing.
 use mathlib.Core.Path.{ap, ◌∙◌}
-use borrow.Author.Rules.{rules}
 use Rattle.effects.specs.Act.{Done}
 use Rattle.machine.specs.declared.State.{State}
 use Rattle.machine.specs.Machine.{machine, landed, step_of}

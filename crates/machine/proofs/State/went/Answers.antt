@@ -2,10 +2,9 @@
 -- Assumes nothing.
 use native.Mathlib.Omega.{arith}
 use mathlib.Core.Path.{ap}
-use borrow.Author.Rules.{rules}
 use Rattle.machine.specs.Machine.{machine}
 use Rattle.machine.specs.Run.{is_running}
-use Rattle.machine.proofs.Loop.{Under, begun, turned, ended, failed, used, rested}
+use Rattle.machine.proofs.Loop.{turned, ended, failed, used, rested}
 use Rattle.machine.proofs.State.went.Goals as goal
 
 pub returns-in-Halted : goal.returns-in-Halted

@@ -1,11 +1,7 @@
 -- `machine::State::went` meets its contract; the loop's invariant and its measure come first.
 -- Assumes nothing.
-use native.Mathlib.Omega.{arith}
-use mathlib.Core.Path.{ap}
-use borrow.Author.Rules.{rules}
 use Rattle.machine.specs.Machine.{machine}
-use Rattle.machine.specs.Run.{is_running}
-use Rattle.machine.proofs.Loop.{Under, begun, turned, ended, failed, used, rested}
+use Rattle.machine.proofs.Loop.{Under}
 use Rattle.machine.proofs.State.went.Given as goal
 
 abbrev pub invariant-loop-left : goal.invariant-loop-left
