@@ -8,7 +8,8 @@ use std::path::{Path, PathBuf};
 use std::process::Stdio;
 
 use start::{
-    assert_fails, assert_prints, command, file, khx, khx_reading, started, M1, PACK, ROOT,
+    assert_fails, assert_prints, command, file, khx, khx_reading, started, unread_pipe, M1, PACK,
+    ROOT,
 };
 
 const COMMANDS: [&str; 7] = ["check", "list", "run", "pack", "shapes", "conform", "bench"];
@@ -353,11 +354,7 @@ fn a_closed_pipe() {
 #[test]
 fn a_verdict_that_nobody_reads() {
     let unread = |words: &[&str]| {
-        let mut reader = started(&["conform"]);
-        let pipe = reader.stdin.take().unwrap();
-        reader.kill().unwrap();
-        reader.wait().unwrap();
-        let output = command(words).stdout(pipe).output().unwrap();
+        let output = command(words).stdout(unread_pipe()).output().unwrap();
         assert_eq!(String::from_utf8_lossy(&output.stderr), "");
         output.status.code()
     };

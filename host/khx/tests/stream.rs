@@ -10,7 +10,7 @@ use std::os::unix::net::UnixStream;
 use std::process::{Child, ChildStderr, ChildStdin, Stdio};
 
 use khalixoshi::pack;
-use start::{assert_fails, command, file, khx, khx_reading, started, PACK, ROOT};
+use start::{assert_fails, command, file, khx, khx_reading, started, unread_pipe, PACK, ROOT};
 
 /// Two rules of one byte, a halt each, with the tags 7 and 9.
 const TWO: [u8; 20] = [
@@ -226,18 +226,11 @@ fn bad_usage() {
 #[test]
 fn told_to_nobody() {
     let pack = file("stream/unheard.pack", &PACK);
-    let gone = || {
-        let mut reader = started(&["conform"]);
-        let pipe = reader.stdin.take().unwrap();
-        reader.kill().unwrap();
-        reader.wait().unwrap();
-        pipe
-    };
     let words = ["check", "--stream", &pack];
-    let output = command(&words).stdout(gone()).output().unwrap();
+    let output = command(&words).stdout(unread_pipe()).output().unwrap();
     assert_eq!(text(&output.stderr), "khx: provisional: 0007 accepted\n");
     assert_eq!(output.status.code(), Some(2));
-    let output = command(&words).stderr(gone()).output().unwrap();
+    let output = command(&words).stderr(unread_pipe()).output().unwrap();
     assert_eq!(text(&output.stdout), "0007 accepted\n");
     assert_eq!(output.status.code(), Some(0));
 }

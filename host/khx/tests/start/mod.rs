@@ -6,7 +6,9 @@
 use std::fs;
 use std::io::Write;
 use std::path::Path;
-use std::process::{Child, Command, Output, Stdio};
+use std::process::{Child, ChildStdin, Command, Output, Stdio};
+use std::thread;
+use std::time::Duration;
 
 pub const ROOT: &str = concat!(env!("CARGO_MANIFEST_DIR"), "/../..");
 pub const M1: [u8; 4] = [0x85, 0x83, 0x15, 0x00];
@@ -35,6 +37,19 @@ pub fn started(words: &[&str]) -> Child {
     let mut command = command(words);
     command.stdin(Stdio::piped()).stdout(Stdio::piped());
     command.stderr(Stdio::piped()).spawn().unwrap()
+}
+
+/// A pipe that nobody reads. A child that another test starts meanwhile holds the end to
+/// read from too, until it runs its own program: so it is written to until that fails.
+pub fn unread_pipe() -> ChildStdin {
+    let mut reader = started(&["conform"]);
+    let mut pipe = reader.stdin.take().unwrap();
+    reader.kill().unwrap();
+    reader.wait().unwrap();
+    while pipe.write_all(b"\n").is_ok() {
+        thread::sleep(Duration::from_millis(1));
+    }
+    pipe
 }
 
 pub fn khx_reading(words: &[&str], input: &[u8]) -> Output {
