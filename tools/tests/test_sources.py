@@ -242,6 +242,12 @@ class Pages(Case):
         self.assertEqual(list(said("by `decodes_of`, `decodeOf` and `list-least`")), [f"`{name}` is declared nowhere" for name in ("decodeOf", "decodes_of", "list-least")])
 
 
+    def test_files(self):
+        self.noticed("THEOREMS.md", command("pages").said_of_files, (
+            ("| `one_table` |", "| `two_tables` |"), ("| guarantee/proofs/Shapes |", "| guarantee/proofs/Shape |"), ("| guarantee/proofs/Shapes |", "| guarantee/proofs/Tags |"),
+        ))
+
+
 class Edits(Case):
     """Logs in logs/facts are named after the form in which they say that a fact could not be shown; those in logs/others say something else."""
 
