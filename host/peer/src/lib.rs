@@ -12,7 +12,7 @@ use functions::{
 };
 pub use functions::{
     sums, Admitter, Cursor, Finder, Form, Functions, Lister, Measured, Memmove, Memories, Plain,
-    Proved, Reader, Reporter, Scanner, HALTED,
+    Proved, Reader, Reporter, Scanner, Shipped, HALTED,
 };
 
 /// Each function is linked so many times.
@@ -99,21 +99,18 @@ macro_rules! sides {
 // What build.rs linked, as `sides!` takes it.
 include!(concat!(env!("OUT_DIR"), "/sides.rs"));
 
-/// At which of the places the library's own `khx_run` lies, here and in every program:
-/// tools/placed fixes it in the library for x86-64.
-pub fn shipped_place() -> Option<usize> {
-    let [run] = copies!(Run<Proved>, [khx_run]);
+/// The library's own run, as every program has it.
+pub static SHIPPED: Shipped = Shipped(copies!(Run<Proved>, [khx_run]));
+
+/// How far past a multiple of 64 it lies, here and in every program: tools/placed fixes it
+/// in the library for x86-64.
+pub fn shipped_past() -> Option<usize> {
+    let [run] = SHIPPED.0;
     if cfg!(target_arch = "x86_64") {
-        place_of(run as usize)
+        Some(run as usize % LINE)
     } else {
         None
     }
-}
-
-/// The place of an address, if it is one of them.
-fn place_of(address: usize) -> Option<usize> {
-    let past = address % LINE;
-    (past % APART == 0).then(|| past / APART)
 }
 
 /// An error where a copy does not lie where it should.
@@ -191,13 +188,6 @@ mod tests {
         let told = at([0x1000, 0x2050, 0x30B0, 0x4070]).unwrap_err();
         let begins = "run of C begins 48 bytes past a multiple of 64, where";
         assert!(told.starts_with(begins), "{told}");
-    }
-
-    #[test]
-    fn the_place_of_an_address() {
-        let places = [0x1000, 0x1010, 0x1020, 0x1030, 0x1040].map(place_of);
-        assert_eq!(places, [Some(0), Some(1), Some(2), Some(3), Some(0)]);
-        assert_eq!(place_of(0x1008), None);
     }
 
     #[test]

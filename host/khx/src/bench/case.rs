@@ -9,6 +9,8 @@ use peer::{Measured, PLACES};
 pub enum Side {
     /// The proved library.
     Proved,
+    /// Its own run, which lies at one place, whatever the place that is asked for.
+    Shipped,
     /// A build of the C; of its two verifiers the one with a bitmap, of its two runs the
     /// one that copies byte by byte.
     C(usize),
@@ -27,7 +29,7 @@ impl Side {
             Side::C(build) | Side::Cursor(build) | Side::Memmove(build) => {
                 Some(&peer::BUILDS[build])
             }
-            Side::Proved | Side::Whole => None,
+            Side::Proved | Side::Shipped | Side::Whole => None,
         }
     }
 
@@ -44,6 +46,7 @@ impl fmt::Display for Side {
     fn fmt(&self, f: &mut fmt::Formatter<'_>) -> fmt::Result {
         match *self {
             Side::Proved => write!(f, "the proved library"),
+            Side::Shipped => write!(f, "the proved library as shipped"),
             Side::C(build) => write!(f, "C by {}", peer::BUILDS[build].name),
             Side::Cursor(build) => write!(f, "C, cursor, by {}", peer::BUILDS[build].name),
             Side::Memmove(build) => write!(f, "C, memmove, by {}", peer::BUILDS[build].name),
@@ -73,9 +76,19 @@ pub fn all_verifiers() -> Vec<Side> {
     both_and(Side::Cursor)
 }
 
+/// The same two of a run, and the library's own where its place is fixed.
+pub fn both_and_shipped() -> Vec<Side> {
+    with_shipped(both())
+}
+
 /// The same, and C's run that copies by memmove by each build.
 pub fn all_runs() -> Vec<Side> {
-    both_and(Side::Memmove)
+    with_shipped(both_and(Side::Memmove))
+}
+
+fn with_shipped(mut sides: Vec<Side>) -> Vec<Side> {
+    sides.extend(peer::shipped_past().map(|_| Side::Shipped));
+    sides
 }
 
 fn both_and(other: fn(usize) -> Side) -> Vec<Side> {
@@ -103,11 +116,6 @@ pub trait Work {
 
     /// The memories as they are.
     fn memories(&self) -> (Vec<u8>, Vec<u16>);
-
-    /// At which place the library as it is shipped does this work, where that is fixed.
-    fn shipped_place(&self) -> Option<usize> {
-        None
-    }
 }
 
 /// What a case's times are told for.

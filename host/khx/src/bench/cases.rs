@@ -198,7 +198,7 @@ fn run(name: &'static str, about: &'static str, mut work: Run) -> Case {
     Case {
         name,
         about,
-        sides: case::both(),
+        sides: case::both_and_shipped(),
         unit: Unit::Step(steps),
         work: Box::new(work),
     }
@@ -314,16 +314,13 @@ impl Work for Run {
                 let memmove = &peer::BUILDS[build].memmove;
                 memmove.run(place, program, data, cells)
             }
+            Side::Shipped => peer::SHIPPED.run(program, data, cells),
             _ => side.functions().run(place, program, data, cells),
         }
     }
 
     fn memories(&self) -> (Vec<u8>, Vec<u16>) {
         (self.data.clone(), self.cells.clone())
-    }
-
-    fn shipped_place(&self) -> Option<usize> {
-        peer::shipped_place()
     }
 }
 

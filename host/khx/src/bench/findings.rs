@@ -9,8 +9,8 @@ pub struct Finding {
     name: &'static str,
     unit: Unit,
     ours: Times,
-    /// The place at which the library has it, where that is fixed.
-    shipped: Option<usize>,
+    /// The library's own at the place at which it is shipped, where that is fixed.
+    shipped: Option<Times>,
     c: Vec<Times>,
     cursor: Vec<Times>,
     memmove: Vec<Times>,
@@ -28,7 +28,7 @@ impl Finding {
             name: case.name,
             unit: case.unit,
             ours: of(|side| side == Side::Proved)[0],
-            shipped: case.work.shipped_place(),
+            shipped: of(|side| side == Side::Shipped).first().copied(),
             c: of(|side| matches!(side, Side::C(_))),
             cursor: of(|side| matches!(side, Side::Cursor(_))),
             memmove: of(|side| matches!(side, Side::Memmove(_))),
@@ -63,15 +63,16 @@ impl Finding {
         Some(self.ours.mean() / whole.mean())
     }
 
-    /// C's time where it is fastest, by whatever build, by our time at a place.
-    fn ratio_at(&self, place: usize) -> f64 {
+    /// C's time where it is fastest, by whatever build, by a time of ours.
+    fn ratio_where_fastest(&self, ours: f64) -> f64 {
         let c = self.c.iter().map(Times::least);
-        c.fold(f64::INFINITY, f64::min) / self.ours.0[place]
+        c.fold(f64::INFINITY, f64::min) / ours
     }
 
-    /// The same at the place at which the library has it.
+    /// The same by our time where it is shipped.
     fn ratio_shipped(&self) -> Option<f64> {
-        self.shipped.map(|place| self.ratio_at(place))
+        self.shipped
+            .map(|times| self.ratio_where_fastest(times.least()))
     }
 
     fn is_run(&self) -> bool {
@@ -111,9 +112,9 @@ impl Finding {
 
     /// Our time at the place at which the library has it, and the ratio there.
     fn told_shipped(&self) -> String {
-        let told = |place| {
-            let (time, ratio) = (self.told(self.ours.0[place]), self.ratio_at(place));
-            format!("{time} {ratio:.2}")
+        let told = |times: Times| {
+            let time = times.least();
+            format!("{} {:.2}", self.told(time), self.ratio_where_fastest(time))
         };
         self.shipped.map_or(String::new(), told)
     }
@@ -271,18 +272,18 @@ fn least(
     }
 }
 
-/// Where the library has the run, and where it would be the fastest here: at the place
-/// whose least ratio is the largest. Nothing where that was not measured.
+/// Where the library has the run, and at which of the four places it would be the fastest
+/// here: the one whose least ratio is the largest. Nothing where that was not measured.
 fn place(runs: &[&Finding]) -> String {
-    let shipped = match runs.iter().find_map(|finding| finding.shipped) {
-        Some(place) => place,
-        None => return String::new(),
+    let shipped = match peer::shipped_past() {
+        Some(past) if runs.iter().any(|finding| finding.shipped.is_some()) => past,
+        _ => return String::new(),
     };
-    let ratios = |place: usize| runs.iter().map(move |finding| finding.ratio_at(place));
+    let ratio = |finding: &Finding, place| finding.ratio_where_fastest(finding.ours.0[place]);
+    let ratios = |place: usize| runs.iter().map(move |finding| ratio(finding, place));
     let least = |place: usize| ratios(place).fold(f64::INFINITY, f64::min);
     let order = |&a: &usize, &b: &usize| least(a).total_cmp(&least(b));
-    let fastest = (0..peer::PLACES).max_by(order).unwrap_or(shipped);
-    let [shipped, fastest] = [shipped, fastest].map(|place| place * peer::APART);
+    let fastest = peer::APART * (0..peer::PLACES).max_by(order).unwrap_or(0);
     format!("khx_run is shipped {shipped} bytes past a multiple of 64; of the four places the fastest here is {fastest}\n")
 }
 
@@ -350,23 +351,30 @@ mod tests {
         );
     }
 
-    /// Our times are half the mean at the first place, and three quarters at the third.
+    /// Our times are half the mean at the first place.
     #[test]
     fn a_run_as_it_is_shipped() {
+        let past = match peer::shipped_past() {
+            Some(past) => past,
+            None => return,
+        };
         let findings = [Finding {
-            shipped: Some(2),
+            shipped: Some(Times([8.0, 7.5, 7.75, 9.0])),
             ..run("counting", 10.0, 22.0)
         }];
         let line = "counting ns/step 1.00 (0.50..1.50) 2.20 (1.10..3.30) gcc -O2 2.20 0.75 1.47 5";
         assert_eq!(words(&table(&findings)), line);
+        let told = targets(&findings);
         assert_eq!(
-            targets(&findings),
-            "run at least as fast as C: met (least 2.20, counting)\n\
-             run 1.3 times as fast as C (aim): met (least 2.20, counting)\n\
-             run as shipped 1.3 times as fast as C where C is fastest (aim): met \
-             (least 1.47, counting)\n\
-             khx_run is shipped 32 bytes past a multiple of 64; of the four places the \
-             fastest here is 0\n"
+            told,
+            format!(
+                "run at least as fast as C: met (least 2.20, counting)\n\
+                 run 1.3 times as fast as C (aim): met (least 2.20, counting)\n\
+                 run as shipped 1.3 times as fast as C where C is fastest (aim): met \
+                 (least 1.47, counting)\n\
+                 khx_run is shipped {past} bytes past a multiple of 64; of the four places the \
+                 fastest here is 0\n"
+            )
         );
     }
 
