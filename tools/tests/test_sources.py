@@ -117,11 +117,15 @@ names =
 
 other = 1
 """
-DIFFER = "proofs/f/Proof.antt:1:1: error: `returns`: computed as far as they go, the two types first differ where one has `{}` (expected) and the other has `{}` (found)"
-ARE = "proofs/f/Proof.antt:1:1: error: `returns`: computed as far as they go, the two types are `{}` (expected) and `{}` (found)"
-WAITS = "proofs/f/Proof.antt:1:1: error: `f-spec`: `close` was not admitted (it has holes or undetermined implicits, or was rejected), so this cannot be checked"
-FACT = "proofs/g/Proof.antt:1:1: error: `returns`: `omega`: the goal does not follow from what it read. All of that holds, and the goal fails"
-NO_NAME = "proofs/g/Proof.antt:1:1: error: `add-n`: `tie` has no `Need-add-n` that can be named from here"
+LINE = "rt: must-fail one/wrong.edit: "
+ERROR = LINE + "refused, as it must be: ./proofs/f/Answers.antt:1:1: error: `returns`: "
+OPEN = LINE + "refused, as it must be: note: src/lib.rt:1:1: it is not proved that "
+DIFFER = ERROR + "computed as far as they go, the two types first differ where one has `{}` (expected) and the ot"
+ARE = ERROR + "computed as far as they go, the two types are `{}` (expected) a"
+FACT = "`omega`: the goal does not follow from what it read. All of that holds, and the goal fails"
+NO_NAME = "`goal.returns-2`: module `Rattle.one.proofs.f.Goals` has no `returns-2` that can be named from here"
+LIMIT = "refused, as it must be (only by a limit of the prover, which gave no verdict, so this says less of the contract: choose a change that it refuses sooner): "
+GONE = "refused, as it must be (only because a proof file names what the edit took away, so this says little of the contract: change a value and keep the names): "
 
 
 class Sources(Case):
@@ -249,46 +253,80 @@ class Pages(Case):
 
 
 class Edits(Case):
-    """Logs in logs/facts are named after the form in which they say that a fact could not be shown; those in logs/others say something else."""
+    """A log in logs/ has lines of rt ci, each of which says in the form that the log is named after that a fact could not be shown."""
+
+    def form(self, line):
+        told = list(refusals.refusals(line))
+        self.assertEqual([(one.crate, one.label) for one in told], [("one", "wrong")], msg=line)
+        return told[0].form
 
     def test_facts(self):
-        logs = sorted((HERE / "logs" / "facts").glob("*.log"))
+        logs = sorted((HERE / "logs").glob("*.log"))
         self.assertTrue(logs)
         for log in logs:
-            self.assertEqual(refusals.first(log.read_text(encoding="utf-8")).form, log.stem.split("-")[0].replace("_", " "), msg=log.name)
+            text = log.read_text(encoding="utf-8")
+            self.assertEqual([one.form for one in refusals.refusals(text)], [log.stem] * text.count("\n"), msg=log.name)
 
-    def test_others(self):
-        logs = sorted((HERE / "logs" / "others").glob("*.log"))
-        self.assertTrue(logs)
-        for log in logs:
-            self.assertIsNone(refusals.first(log.read_text(encoding="utf-8")).form, msg=log.name)
+    def test_open(self):
+        """What is open is a fact, but that a loop ends of which no measure is known; it is false where the line says so, as far as it goes."""
+        fact, false = "what the function ensures holds when it returns (`returns`)", "; the facts known there allow values at which this goal is false"
+        cut = OPEN[len(LINE) + len("refused, as it must be: "):] + fact
+        self.assertEqual(self.form(OPEN + fact), "open")
+        self.assertEqual(self.form(OPEN + fact + false), "refuted")
+        self.assertEqual(self.form(OPEN + fact + false[:refusals.CUT - len(cut)]), "refuted")
+        self.assertEqual(self.form(OPEN + fact + false[:30]), "open")
+        self.assertEqual(self.form(OPEN + fact + "; `search` gave up at one of its limits"), "open")
+        self.assertEqual(self.form(OPEN + "the loop ends, by its measure (`loop-more-decreases`)"), "open")
+        self.assertIsNone(self.form(OPEN + "the loop ends: rattle tried as its measure how deep `n` is"))
+
+    def test_errors(self):
+        for said, form in (
+            (FACT, "omega"), ("`omega`: the part `a` of the goal does not follow from what it read", "omega"), ("`omega`: it reads no hypothesis", None),
+            ("give a proof of that as the last argument, `simp L t`", "simp"), ("give a proof of that as the last argument, `rw L t`", "rw"),
+            ("`rw`: no equation of the list has an instance in the goal `a ≡ b`", "rw"), ("`cc`: the equations do not join `a` and `b`", "cc"),
+            ("`search`: no proof of `a ≡ b` was found", "search"), ("computed as far as they go, the first 4096 bytes of the two types are identical", "statement"),
+            ("expected type `c.a ≡ c.b`, but this has type `c.a ≡ c.d`", "statement"), ("expected type `mathlib.Core.Path.◌≡◌ c.halve.result (Rattle.halv", "statement"),
+            ("expected type `mathlib.Core.List.List ℕ`, but this has type `ℕ`", None), ("this `refuses` lands at index `a` (position 2) but the exp", "statement"),
+            ("this `refuses` lands at index `Prim.Native.Nat.ℕ` (position 2) but the exp", None), (NO_NAME, None), ("`x` is not in scope", None), ("", None),
+        ):
+            self.assertEqual(self.form(ERROR + said), form, msg=said)
+        self.assertIsNone(self.form((ERROR + FACT).replace("Answers", "Invariants")))
+        self.assertIsNone(self.form((ERROR + FACT).replace("./proofs/f/Answers.antt", "src/lib.rt")))
 
     def test_said(self):
-        """Of two types the first that is no value makes an error another than a fact's."""
-        for one, other, form in (
-            ("35", "36", "statement"), ("0", "c .before .args .at", "statement"), ("h", "r", "statement"), (".loop .steps", "c .x", "statement"),
-            ("Rattle·a.specs.declared.Pair.the-variants.Sub", "Rattle·a.specs.declared.Pair.the-variants.Add", "statement"),
-            ("Prim.Native.Nat.ℕ", "mathlib.Core.Bool.Bool", None), ("mathlib.Core.List.List", "Prim.Native.Nat.ℕ", None), ("0", "Prim.Native.Nat.ℕ", None),
-            ("Rattle·a.proofs.S.the-type", "Rattle·a.proofs.T.the-type", None), ("(borrow.Table.Rows.whole x) .Mod", "y", None),
-            ("mir.Syntax.w8", "mir.Syntax.w16", None), ("mathlib.Core.List.[]", "mathlib.Core.List._∷_ x y", "statement"),
+        """Where two types first differ in what is no value, the error is another than a fact's."""
+        for term, form in (
+            ("35", "statement"), ("c.before.args.at", "statement"), ("h", "statement"), (".loop.steps", "statement"),
+            ("Rattle.a.specs.declared.Pair.TheVariants.Sub", "statement"), ("mathlib.Core.List.[]", "statement"), ("mathlib.Core.List.◌∷◌ x y", "statement"),
+            ("Prim.Native.Nat.◌/◌", "statement"), ("mathlib.Core.Path.◌≡◌", None), ("mathlib.Core.Logic.◌⊎◌", None),
+            ("Prim.Native.Nat.ℕ", None), ("mathlib.Core.List.List", None), ("Rattle.a.proofs.S.the-type", None), ("(borrow.Table.Rows.whole x).Mod", None),
+            ("mir.Syntax.w8", None),
         ):
-            self.assertEqual(refusals.first(DIFFER.format(one, other)).form, form, msg=(one, other))
-        self.assertIsNone(refusals.first(DIFFER.format("35", "36").replace("`returns`", "`Inv-loop`")).form)
-        shifted = "\n  expected type `tie.Need-returns`, but this has type `tie.Need-returns-2`"
-        self.assertIsNone(refusals.first(DIFFER.format("35", "36") + shifted).form)
-        for one, other, form in (
-            ("Path ℕ 0 1", "Path ℕ 0 0", "statement"), ("a .cells ≤ 1024", "a .cells ≤ 1025", "statement"), ("Path ℕ 0 1", "Path (List ℕ) x y", None),
-            ("a ≤ 1", "a < 1", None), ("m.Logic._⊎_ (Path ℕ k 6) (Path ℕ k 6)", "m.Logic._⊎_ (Path ℕ k 6) (Path ℕ k 7)", "statement"),
-            ("(a ≤ 1) × (b ≡ 2)", "(a ≤ 1) × (b ≡ 3)", "statement"), ("m.Logic._⊎_ (Path ℕ k 6) State", "m.Logic._⊎_ (Path ℕ k 6) State", None),
-            ("a ≤ 1", "m.Logic._⊎_ (Path ℕ k 6) (Path ℕ k 7)", None), ("mathlib.Core.List.List ℕ", "Rattle·m.specs.declared.State.State", None),
+            self.assertEqual(self.form(DIFFER.format(term)), form, msg=term)
+        self.assertEqual(self.form(DIFFER.partition("{")[0] + "(c.args.first * 3"), "statement")
+        self.assertIsNone(self.form(DIFFER.partition("{")[0] + "Prim.Nativ"))
+        for term, form in (
+            ("Path ℕ 0 1", "statement"), ("a.cells ≤ 1024", "statement"), ("m.Logic.◌⊎◌ (Path ℕ k 6) (Path ℕ k 7)", "statement"), ("(a ≤ 1) × (b ≡ 2)", "statement"),
+            ("m.Logic.◌⊎◌ State (Path ℕ k 6)", None), ("mathlib.Core.List.List ℕ", None), ("Rattle.m.specs.declared.State.State", None),
         ):
-            self.assertEqual(refusals.first(ARE.format(one, other)).form, form, msg=(one, other))
+            self.assertEqual(self.form(ARE.format(term)), form, msg=term)
 
-    def test_nothing(self):
-        self.assertIsNone(refusals.first(WAITS).form)
-        self.assertIsNone(refusals.first("logic=not-proved"))
-        self.assertEqual(refusals.first(WAITS + "\n" + FACT).form, "omega")
-        self.assertIsNone(refusals.first(NO_NAME + "\n" + FACT).form)
+    def test_not_refused(self):
+        """What is refused for a limit, or because a name went, what is bad, not tried or not refused, and what says nothing."""
+        fact = ERROR[len(LINE) + len("refused, as it must be: "):] + FACT
+        self.assertEqual(self.form(LINE + "refused, as it must be: " + fact), "omega")
+        for said in (LIMIT + fact, GONE + fact, "refused, as it must be", "BAD EDIT: it has no 'old:' and 'new:' pair", "NOT TRIED: its check was killed", "NOT REFUSED: the crate is still proved with this edit"):
+            self.assertIsNone(self.form(LINE + said), msg=said)
+        self.assertEqual(list(refusals.refusals("rt: one proved\nlogic=not-proved\n1 passed, 0 failed")), [])
+
+    def test_told(self):
+        """Each edit has one line, and it says a fact."""
+        of_refusal = command("edits").of_refusal
+        said = lambda *lines: list(refusals.refusals("\n".join(lines)))
+        self.assertIsNone(of_refusal(said(ERROR + FACT)))
+        self.assertIsNone(of_refusal(said(ERROR + FACT, ERROR + FACT)))
+        for lines in ((), (ERROR + NO_NAME,), (ERROR + FACT, ERROR + NO_NAME)):
+            self.assertTrue(of_refusal(said(*lines)), msg=lines)
 
     def test_bodies(self):
         top = self.repository({"one/src/lib.rt": BODIES, "two/src/lib.rt": "// None.\n", "two/specs/A.antt": "a = 1\n", "one/specs/A.antt": "a = 1\n"})
