@@ -71,6 +71,7 @@ fn wild(st: Admission) -> bool
 }
 
 // Whether the numbers contradict one another.
+#[tactic(auto, unfolding(crate::specs::Numbers::torn_of))]
 fn torn(st: Admission) -> bool
     ensures { result ≡ torn_of st }
 {
@@ -100,6 +101,7 @@ pub fn damaged(st: Admission) -> bool
 }
 
 // What refuses the pack whatever follows, 0 for nothing.
+#[tactic(auto, unfolding(crate::specs::Numbers::lost_of))]
 pub fn lost(st: Admission) -> usize
     ensures { result ≡ lost_of st }
 {

@@ -10,6 +10,7 @@ use admission::Admission;
 use pack::Bodies;
 
 // After the second byte: how long the contents are, or 30.
+#[tactic(auto, unfolding(admission::specs::Admission::sized_of))]
 fn sized(st: Admission, contents: &[u8]) -> Admission
     requires { 514 ≤ length contents.now }
     ensures { result ≡ sized_of st contents.now }

@@ -61,6 +61,7 @@ pub fn system_of(x: u16, depth: usize) -> Move
 }
 
 // Extension function a: there is none.
+#[tactic(auto, using(effects::proofs::Opens::few, effects::proofs::Opens::failed))]
 pub fn extension_taken(depth: usize) -> Move
     ensures { (program mem cells : List ℕ) (next : ℕ) → depth ≤ length cells → done result mem cells ≡ do_of program next (Taken Extension) depth mem cells }
 {

@@ -101,6 +101,7 @@ fn read_head(rows: &[u8], s: &[u8]) -> Decoded
 }
 
 // The same as `decode`, for a caller that made the table of shapes once and lends its rows.
+#[tactic(auto, unfolding(crate::specs::Decode::decode_of))]
 pub fn decode_by(rows: &[u8], program: &[u8], at: usize) -> Decoded
     requires { rows.now ≡ shape_rows }
     ensures { decoded_answer result ≡ decode_of program.now at }

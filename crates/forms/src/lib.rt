@@ -18,6 +18,7 @@ pub enum Form {
 }
 
 // The form of a code.
+#[tactic(auto, unfolding(crate::specs::Form::form_of))]
 pub fn form_of(code: u8) -> Form
     ensures { result ≡ form_of code }
 {
@@ -46,6 +47,7 @@ pub fn form_of(code: u8) -> Form
 }
 
 // The code of a first byte.
+#[tactic(auto, unfolding(crate::specs::Form::code_of))]
 pub fn code_of(first: u8) -> u8
     ensures { result ≡ code_of first }
 {

@@ -103,6 +103,7 @@ fn take_chunk(
 }
 
 // Whether the memory lent is shorter than an admission's.
+#[tactic(auto, unfolding(admission::specs::Admission::short_of))]
 fn short(contents: &[u8], body: &[u8], map: &[u16], verdicts: &[u16]) -> bool
     ensures { result ≡ short_of contents.now body.now map.now verdicts.now }
 {

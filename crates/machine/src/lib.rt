@@ -121,6 +121,7 @@ impl State {
     }
 
     // At most `budget` steps.
+    #[tactic(auto, unfolding(crate::specs::Run::outcome_of))]
     pub fn run(self, program: &[u8], data: &mut [u8], cells: &mut [u16], budget: u32) -> Ran
         ensures { ran_outcome result «data».new cells.new ≡ outcome_of budget program.now (machine self «data».old cells.old) }
     {

@@ -110,6 +110,7 @@ pub fn rows() -> [u8; 1674]
 }
 
 // The row of a code.
+#[tactic(auto, unfolding(crate::specs::Names::place_of))]
 fn place_of(code: u8) -> usize
     ensures { (result ≡ place_of code) × (result < 93) }
 {

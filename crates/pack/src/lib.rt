@@ -65,6 +65,7 @@ fn read_entry(s: &[u8], at: usize) -> Entry
 }
 
 // What refuses an entry, 0 for nothing: `least` is the least tag allowed, `at` where its body is to begin.
+#[tactic(auto, unfolding(crate::specs::Contents::refusal_of))]
 pub fn refusal_of(least: usize, at: usize, e: Entry) -> usize
     ensures { result ≡ refusal_of least at e }
 {
@@ -107,6 +108,7 @@ fn bodies_end(pack: &[u8], n: usize) -> Bodies
 }
 
 // How many entries a pack holds, all of them inside it.
+#[tactic(auto, unfolding(crate::specs::Read::held_of))]
 fn held(pack: &[u8]) -> Checked
     ensures { checked_answer result ≡ held_of pack.now }
 {
@@ -135,6 +137,7 @@ pub fn contents_end(pack: &[u8]) -> Bodies
 }
 
 // Checks a whole pack.
+#[tactic(auto, unfolding(crate::specs::Read::read_of))]
 pub fn check(pack: &[u8]) -> Checked
     ensures { checked_answer result ≡ seen length (read_of pack.now) }
 {
@@ -170,6 +173,7 @@ pub fn entry_at(pack: &[u8], index: usize) -> Listed
 }
 
 // The entry at a place, where its tag is the one that is sought and a host may read by what it says.
+#[tactic(auto, unfolding(crate::specs::Lookup::kept_of, crate::specs::Contents::entry_at))]
 fn kept(pack: &[u8], at: usize, tag: u16) -> Found
     requires { at + 8 ≤ length pack.now }
     ensures { found_answer result ≡ kept_of pack.now tag (entry_at pack.now at) }
@@ -221,6 +225,7 @@ pub fn find(pack: &[u8], tag: u16) -> Found
 
 // The entry of the program with a tag, in a pack that was checked before: few of its tags are read, and the pack is not checked again. In any other bytes it is one
 // that they hold, or a refusal.
+#[tactic(auto, unfolding(crate::specs::Lookup::lookup_of))]
 pub fn lookup(pack: &[u8], tag: u16) -> Found
     ensures { found_answer result ≡ lookup_of pack.now tag }
 {

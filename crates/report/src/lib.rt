@@ -53,6 +53,7 @@ fn put_report(pack: &[u8], map: &mut [u16], room: &mut [u8]) -> usize
 }
 
 // Writes the report on a pack at the start of a room, or refuses and leaves the room as it was.
+#[tactic(auto, unfolding(crate::specs::Report::write_of, crate::specs::Report::map_of))]
 pub fn write(pack: &[u8], map: &mut [u16], room: &mut [u8]) -> Reported
     ensures result_value { reported_answer result ≡ seen length (write_of pack.now (length map.old) (length room.old)) }
     ensures room_after { room.new ≡ room_after (write_of pack.now (length map.old) (length room.old)) room.old }

@@ -106,3 +106,6 @@ module _ (rows : List ℕ) (e : rows ≡ shape_rows) (b : ℕ) (h : b < 256) whe
       by : (s : Shape) → shape_of b ≡ s → Row (get_or rows (b * 3) 0) (get_or rows (b * 3 + 1) 0) (get_or rows (b * 3 + 2) 0) ≡ s
       by (Row l t p) q = let m = numbers (Row l t p) q in let x = m.0 in let y = m.1 in let z = m.2 in cc
       by Illegal q = absurd (n (numbers Illegal q).0)
+
+-- what an entry of the table says of its row
+pub ruleset row_looks = (row-none, row-some, rows-length)

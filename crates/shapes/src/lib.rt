@@ -55,6 +55,7 @@ pub fn rows() -> [u8; 768]
 }
 
 // The row of a first byte, in the table.
+#[tactic(auto, using(crate::proofs::Looks::row_looks))]
 pub fn row_in(rows: &[u8], first: u8) -> Shape
     requires { rows.now ≡ shape_rows }
     ensures { result ≡ shape_of first }

@@ -57,6 +57,7 @@ fn walk(
 }
 
 // Whether a program may run with so many cells, and the depth map.
+#[tactic(auto, unfolding(crate::specs::Verify::verify_of))]
 pub fn verify(program: &[u8], cells: usize, map: &mut [u16]) -> Verdict
     ensures { (judged_in result, map.new) ≡ verify_of program.now cells map.old }
 {

@@ -6,12 +6,8 @@ use mathlib.Core.Path.{◌≡◌, sym, ap, ◌∙◌}
 use lib.ListN.{length}
 use Rattle.basis.specs.Answer.{given}
 use Rattle.report.specs.Report.{report_of}
-use Rattle.report.proofs.Writes.{few-cells, map-kept, map-laid, no_room, fits, copied}
+use Rattle.report.proofs.Writes.{map-laid, no_room, fits, copied}
 use Rattle.report.proofs.write.Goals as goal
-
-pub returns-then-map-lt16384 : goal.returns-then-map-lt16384
-returns-then-map-lt16384 c = let a = c.args in let e = few-cells a.pack.now a.map.now c.if-map-lt16384.true (length a.room.now) in
-    record { result_value = rw e; room_after = rw e; map_after = sym (map-kept a.pack.now a.map.now c.if-map-lt16384.true) }
 
 pub returns-then-room-n : goal.returns-then-room-n
 returns-then-room-n c = let a = c.args in let p = c.put_report-n.ensures in
