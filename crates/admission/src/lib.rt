@@ -45,6 +45,7 @@ pub fn start() -> Admission
 }
 
 // Whether a number is past its bound.
+#[tactic(auto, unfolding(crate::specs::Numbers::wild_of))]
 fn wild(st: Admission) -> bool
     ensures { result ≡ wild_of st }
 {
