@@ -14,9 +14,10 @@ not reach it:
   search     nothing that is known gives the statement (grind, which splits cases too, says the same)
   statement  what the proof shows is another statement than the one asked: the two first differ in a value, or so late that only their beginning is
              printed, or the one asked is an equation or an inequality
+  cut        the same, and the line ends inside the name of what they first differ in, so that it may be no value
 So a name that is not found, a term of another type, an invariant or a measure that no longer fits its loop, an answer that comes to stand at another
 goal, a limit of the prover, and a text that is not read, are no such facts. Of two statements the line has room for the one that is asked alone: that
-the other is one too, and in what they differ, this cannot see. That a fact could not be shown does not say that it is false: that the edit is wrong
+the other is one too, and what it has where they differ, this cannot see. That a fact could not be shown does not say that it is false: that the edit is wrong
 is for its reader to see.
 """
 import re
@@ -56,6 +57,11 @@ class Refusal(NamedTuple):
     form: str
 
 
+def is_cut(term, whole):
+    """Whether the name with which a printed term begins is not all there."""
+    return not whole and not re.search(r"[\s)]", term.lstrip("( ")) and not term.lstrip("( ").startswith(TYPE_HOMES)
+
+
 def is_value(term, whole=True):
     """Whether a printed term is a value: a number, a part of something, a variant, a variable, an operation, or a function's value. Types are
     none of these: their names begin with a capital or stand in TYPE_HOMES, or they are made by TYPE_MAKERS or RELATIONS or end in TYPE_PARTS. A
@@ -68,6 +74,11 @@ def is_value(term, whole=True):
         return False
     return bool(re.fullmatch(r"\d+|\.\w\S*", head) or re.search(r"\.(?:the-variants|TheVariants)\.", head) or re.search(r"\.declared\.(\w+)\.\1\.\w+$", head)
                 or re.match(r"[a-zα-ω◌\[]", name))
+
+
+def is_head(term):
+    """Whether a printed term is what an equation or an inequality begins with."""
+    return term.split(".")[-1].strip("◌") in ("Path", *RELATIONS)
 
 
 def parts(term):
@@ -118,6 +129,10 @@ def form_of(first):
         return "statement"
     for pattern in (DIFFER, LANDS):
         differ = pattern.match(said)
+        if differ and is_cut(differ["term"], differ["whole"]):
+            return "cut" if len(first) >= CUT else None
+        if differ and is_head(differ["term"]) and said[differ.end():].startswith(" (expected), at the start"):
+            return "statement"
         if differ:
             return "statement" if is_value(differ["term"], bool(differ["whole"])) else None
     for pattern in (ARE, PLAIN):

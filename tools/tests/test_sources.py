@@ -303,8 +303,15 @@ class Edits(Case):
             ("mir.Syntax.w8", None),
         ):
             self.assertEqual(self.form(DIFFER.format(term)), form, msg=term)
-        self.assertEqual(self.form(DIFFER.partition("{")[0] + "(c.args.first * 3"), "statement")
-        self.assertIsNone(self.form(DIFFER.partition("{")[0] + "Prim.Nativ"))
+        begun = DIFFER.partition("{")[0]
+        self.assertEqual(self.form(begun + "(c.args.first * 3"), "statement")
+        # CUT characters of what was said, and what they differ in has no end
+        cut = lambda term: (begun + term)[:len(LINE) + len("refused, as it must be: ") + refusals.CUT]
+        self.assertEqual(self.form(cut("Rattle.alu.specs.declared.Pair.TheVariants.Sub")), "cut")
+        self.assertIsNone(self.form(cut("mir.Syntax.w8.and.what.follows.it.in.the.line")))
+        self.assertIsNone(self.form(begun + "Prim"))
+        self.assertEqual(self.form(begun + "Path` (expected), at the start, and t"), "statement")
+        self.assertIsNone(self.form(begun + "Path` (expected), right after `x`"))
         for term, form in (
             ("Path ℕ 0 1", "statement"), ("a.cells ≤ 1024", "statement"), ("m.Logic.◌⊎◌ (Path ℕ k 6) (Path ℕ k 7)", "statement"), ("(a ≤ 1) × (b ≡ 2)", "statement"),
             ("m.Logic.◌⊎◌ State (Path ℕ k 6)", None), ("mathlib.Core.List.List ℕ", None), ("Rattle.m.specs.declared.State.State", None),
