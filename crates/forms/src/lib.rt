@@ -47,7 +47,6 @@ pub fn form_of(code: u8) -> Form
 }
 
 // The code of a first byte.
-#[tactic(auto, unfolding(crate::specs::Form::code_of))]
 pub fn code_of(first: u8) -> u8
     ensures { result ≡ code_of first }
 {
@@ -55,6 +54,7 @@ pub fn code_of(first: u8) -> u8
         return first;
     }
     if first < 0xC0 {
+        #[tactic(auto, unfolding(crate::specs::Form::code_of))]
         return 0x80;
     }
     0xC0
