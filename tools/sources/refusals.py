@@ -16,9 +16,9 @@ not reach it:
              printed, or the one asked is an equation or an inequality
   cut        the same, and the line ends inside the name of what they first differ in, so that it may be no value
 So a name that is not found, a term of another type, an invariant or a measure that no longer fits its loop, an answer that comes to stand at another
-goal, a limit of the prover, and a text that is not read, are no such facts. Of two statements the line has room for the one that is asked alone: that
+goal's place, a limit of the prover, and a text that is not read, are no such facts. Of two statements the line has room for the one that is asked alone: that
 the other is one too, and what it has where they differ, this cannot see. That a fact could not be shown does not say that it is false: that the edit is wrong
-is for its reader to see.
+is for its reader to see. Nor can it see that a goal which is open has only another name under the edit than the one that is answered.
 """
 import re
 from typing import NamedTuple
