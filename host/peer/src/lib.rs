@@ -107,10 +107,15 @@ pub static SHIPPED: Shipped = Shipped(copies!(Run<Proved>, [khx_run]));
 pub fn shipped_past() -> Option<usize> {
     let [run] = SHIPPED.0;
     if cfg!(target_arch = "x86_64") {
-        Some(run as usize % LINE)
+        Some(past(run as usize))
     } else {
         None
     }
+}
+
+/// How far past a multiple of 64 an address is.
+fn past(address: usize) -> usize {
+    address % LINE
 }
 
 /// An error where a copy does not lie where it should.
@@ -188,6 +193,13 @@ mod tests {
         let told = at([0x1000, 0x2050, 0x30B0, 0x4070]).unwrap_err();
         let begins = "run of C begins 48 bytes past a multiple of 64, where";
         assert!(told.starts_with(begins), "{told}");
+    }
+
+    #[test]
+    fn the_place_of_an_address() {
+        let places = [0x1000, 0x1010, 0x1020, 0x1030, 0x1040].map(past);
+        assert_eq!(places, [0, APART, 2 * APART, 3 * APART, 0]);
+        assert_eq!(past(0x1008), 8);
     }
 
     #[test]

@@ -9,8 +9,9 @@ pub struct Finding {
     name: &'static str,
     unit: Unit,
     ours: Times,
-    /// The library's own at the place at which it is shipped, where that is fixed.
-    shipped: Option<Times>,
+    /// Where the library's own is shipped, in bytes past a multiple of 64, and its times
+    /// there, where that is fixed.
+    shipped: Option<(usize, Times)>,
     c: Vec<Times>,
     cursor: Vec<Times>,
     memmove: Vec<Times>,
@@ -28,7 +29,7 @@ impl Finding {
             name: case.name,
             unit: case.unit,
             ours: of(|side| side == Side::Proved)[0],
-            shipped: of(|side| side == Side::Shipped).first().copied(),
+            shipped: peer::shipped_past().zip(of(|side| side == Side::Shipped).first().copied()),
             c: of(|side| matches!(side, Side::C(_))),
             cursor: of(|side| matches!(side, Side::Cursor(_))),
             memmove: of(|side| matches!(side, Side::Memmove(_))),
@@ -72,7 +73,7 @@ impl Finding {
     /// The same by our time where it is shipped.
     fn ratio_shipped(&self) -> Option<f64> {
         self.shipped
-            .map(|times| self.ratio_where_fastest(times.least()))
+            .map(|(_, times)| self.ratio_where_fastest(times.least()))
     }
 
     fn is_run(&self) -> bool {
@@ -112,7 +113,7 @@ impl Finding {
 
     /// Our time at the place at which the library has it, and the ratio there.
     fn told_shipped(&self) -> String {
-        let told = |times: Times| {
+        let told = |(_, times): (usize, Times)| {
             let time = times.least();
             format!("{} {:.2}", self.told(time), self.ratio_where_fastest(time))
         };
@@ -275,9 +276,9 @@ fn least(
 /// Where the library has the run, and at which of the four places it would be the fastest
 /// here: the one whose least ratio is the largest. Nothing where that was not measured.
 fn place(runs: &[&Finding]) -> String {
-    let shipped = match peer::shipped_past() {
-        Some(past) if runs.iter().any(|finding| finding.shipped.is_some()) => past,
-        _ => return String::new(),
+    let shipped = match runs.iter().find_map(|finding| finding.shipped) {
+        Some((past, _)) => past,
+        None => return String::new(),
     };
     let ratio = |finding: &Finding, place| finding.ratio_where_fastest(finding.ours.0[place]);
     let ratios = |place: usize| runs.iter().map(move |finding| ratio(finding, place));
@@ -351,30 +352,24 @@ mod tests {
         );
     }
 
-    /// Our times are half the mean at the first place.
+    /// Our times are half the mean at the first place, and three quarters where it is
+    /// shipped.
     #[test]
     fn a_run_as_it_is_shipped() {
-        let past = match peer::shipped_past() {
-            Some(past) => past,
-            None => return,
-        };
         let findings = [Finding {
-            shipped: Some(Times([8.0, 7.5, 7.75, 9.0])),
+            shipped: Some((32, Times([8.0, 7.5, 7.75, 9.0]))),
             ..run("counting", 10.0, 22.0)
         }];
         let line = "counting ns/step 1.00 (0.50..1.50) 2.20 (1.10..3.30) gcc -O2 2.20 0.75 1.47 5";
         assert_eq!(words(&table(&findings)), line);
-        let told = targets(&findings);
         assert_eq!(
-            told,
-            format!(
-                "run at least as fast as C: met (least 2.20, counting)\n\
-                 run 1.3 times as fast as C (aim): met (least 2.20, counting)\n\
-                 run as shipped 1.3 times as fast as C where C is fastest (aim): met \
-                 (least 1.47, counting)\n\
-                 khx_run is shipped {past} bytes past a multiple of 64; of the four places the \
-                 fastest here is 0\n"
-            )
+            targets(&findings),
+            "run at least as fast as C: met (least 2.20, counting)\n\
+             run 1.3 times as fast as C (aim): met (least 2.20, counting)\n\
+             run as shipped 1.3 times as fast as C where C is fastest (aim): met \
+             (least 1.47, counting)\n\
+             khx_run is shipped 32 bytes past a multiple of 64; of the four places the \
+             fastest here is 0\n"
         );
     }
 
