@@ -200,6 +200,8 @@ def public(folder):
         for item in module.items:
             if item.kind == "fn" and item.exported:
                 show(module, item, module.path + (item.name,))
+            if item.kind == "trait impl":
+                show(module, item, (item.name,))
             if item.kind == "impl":
                 for one in item.items:
                     if one.public and item.name in types or one.exported:

@@ -43,7 +43,7 @@ def shown(items):
 
 
 def has_functions(folder):
-    return any(item.kind in ("fn", "impl") for file in folder.glob("src/**/*.rt") for item in rattle.items(file.read_text(encoding="utf-8"), str(file)))
+    return any(item.kind in ("fn", "impl", "trait impl") for file in folder.glob("src/**/*.rt") for item in rattle.items(file.read_text(encoding="utf-8"), str(file)))
 
 
 def check(edit, top=crates.TOP):

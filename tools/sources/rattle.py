@@ -31,7 +31,8 @@ class Clause(NamedTuple):
 
 
 class Item(NamedTuple):
-    """One item. `within` is the type of the impl block that it stands in, or None; `text` is the item without its body."""
+    """One item. `within` is the type of the impl block that it stands in, or None; `text` is the item without its body. An impl of a trait has the kind
+    `trait impl`, its whole head for its name, and for its text the head and its ghost members."""
     kind: str
     name: str
     public: bool
@@ -197,20 +198,37 @@ class Source:
             made["name"] = self.token()[0]
             self.past(";")
             return Item(**{**made, "text": self.dedented(start)})
+        if kind == "ghost" and within is not None:
+            made["name"] = self.token()[0]
+            sign, _ = self.take("=", ":")
+            self.take("{")
+            said = self.antt("}")
+            self.take(";")
+            return Item(**{**made, "text": f"ghost {made['name']}{sign if sign == ':' else ' ='} {{ {said} }};"})
         if kind == "mod":
             made["name"] = self.token()[0]
             token, _ = self.take(";", "{")
             return Item(**{**made, "items": self.items("}") if token == "{" else None})
+        if kind == "trait" and within is None:
+            made["name"] = self.token()[0]
+            while self.peek() not in ("{", ""):
+                self.token()
+            self.take("{")
+            return Item(**{**made, "items": self.items("}", made["name"])})
         if kind == "impl" and within is None:
             begin = self.at
             while self.peek() not in ("{", ""):
                 self.token()
-            head = self.text[begin:self.at]
-            owner = re.fullmatch(r"\s*(?:<[^>]*>)?\s*(\w+)\s*(?:<[^>]*>)?\s*", head)
+            head = plain(self.text[begin:self.at])
+            of_trait, owner = owner_of(head)
             if not owner:
-                self.wrong(f"an impl block of another form: impl{head}")
+                self.wrong(f"an impl block of another form: impl {head}")
             self.take("{")
-            return Item(**{**made, "name": owner.group(1), "items": self.items("}", owner.group(1))})
+            inner = self.items("}", owner)
+            if not of_trait:
+                return Item(**{**made, "name": owner, "items": inner})
+            ghosts = "\n".join(f"    {one.text}" for one in inner if one.kind in ("ghost", "type"))
+            return Item(**{**made, "kind": "trait impl", "name": head, "text": f"impl {head}" + (f" {{\n{ghosts}\n}}" if ghosts else " {}"), "items": inner})
         self.wrong(f"an item of another form, at `{kind}`")
 
     def of_file(self):
@@ -300,6 +318,17 @@ class Source:
 
 def plain(text):
     return " ".join(text.split())
+
+
+def owner_of(head):
+    """Of the head of an impl block, whether it is of a trait, and the name of the type that it is for; no name where the head has another form."""
+    bare, depth = [], 0
+    for sign in re.findall(r"->|.", head):
+        depth += {"<": 1, ">": -1}.get(sign, 0)
+        if depth == 0 and sign != ">":
+            bare.append(sign)
+    found = re.fullmatch(r"\s*(?:([\w:]+)\s+for\s+)?(?:&\s*(?:'\w+\s+)?(?:mut\s+)?)?([\w:]+|\[\w+\])\s*(?:where\b.*)?", "".join(bare))
+    return (bool(found.group(1)), found.group(2).split("::")[-1]) if found else (False, "")
 
 
 def items(text, where):

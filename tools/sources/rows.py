@@ -1,10 +1,10 @@
-"""The table of first bytes and the names, as they stand in the sources: the bytes of crates/shapes/src/lib.rt, which are proved to be the table that the
+"""The table of first bytes and the names, as they stand in the sources: the bytes of crates/shapes/src/table.rt, which are proved to be the table that the
 opcode definition gives, and the list of crates/names/specs/Names.antt."""
 import re
 
 from sources import crates
 
-TABLE = crates.TOP / "crates" / "shapes" / "src" / "lib.rt"
+TABLE = crates.TOP / "crates" / "shapes" / "src" / "table.rt"
 NAMES = crates.TOP / "crates" / "names" / "specs" / "Names.antt"
 ILLEGAL = "illegal"
 

@@ -55,10 +55,10 @@ class Placed(unittest.TestCase):
         words = subprocess.run([nm, "--format=posix", object_], check=True, capture_output=True, text=True).stdout.split()
         return int(words[words.index("khx_run") + 2], 16)
 
-    def laid(self, before, head):
+    def laid(self, before, head, *options):
         """Where a run is laid."""
         run_ = self.assembled(run(before, head))
-        subprocess.run([PLACED, run_], check=True)
+        subprocess.run([PLACED, *options, run_], check=True)
         self.assertTrue(self.lies(run_))
         return self.place(run_)
 
@@ -68,6 +68,17 @@ class Placed(unittest.TestCase):
         self.assertEqual(self.laid(21, 40), 48)
         self.assertEqual(self.laid(40, 44), 32)
         self.assertEqual(self.laid(62, 44), 16)
+
+    def test_no_jump_of_the_head_crosses_or_ends_at_a_multiple_of_32_where_a_place_avoids_it(self):
+        # the jump would end at 64; at 48 it does not
+        self.assertEqual(self.laid(20, 40, "--clear"), 48)
+        self.assertEqual(self.laid(20, 38, "--clear"), 0)
+        # a comparison and its jump, six bytes from 30 on, would cross 32; at 16 they do not
+        compared = run(20, 36).replace("1:  decl %eax\n", "1:  decl %eax\n    .skip 8, 0x90\n    cmpl $90, %eax\n    jae 2f\n").replace(".skip 36", ".skip 20")
+        object_ = self.assembled(compared)
+        subprocess.run([PLACED, "--clear", object_], check=True)
+        self.assertTrue(self.lies(object_))
+        self.assertNotEqual(self.place(object_), 0)
 
     def test_it_is_laid_elsewhere_where_none_of_the_four_places_will_do(self):
         self.assertEqual(self.laid(8, 55), 56)

@@ -145,8 +145,21 @@ class Sources(Case):
         self.assertEqual(long.words, {"length": "lib.ListN", "taken": "lib.ListN.take"})
         self.assertEqual(long.types["Given"], "other")
 
+    def test_traits(self):
+        """A trait's own items, and an impl of one with its ghost members, whatever the types' parameters."""
+        text = ("trait T {\n    ghost size: { Self → ℕ };\n    fn f(&self) -> u8;\n}\n"
+                "impl<'a, F: Fn(u8) -> u8> From<Option<&'a F>> for Given<'_, F> {\n    type Item = u8;\n    ghost use A.{b};\n    ghost gives = { λ x. x };\n\n    fn from(x: u8) -> u8 {\n        x\n    }\n}\n")
+        trait, given = rattle.items(text, "here")
+        self.assertEqual((trait.kind, trait.name, [one.name for one in trait.items]), ("trait", "T", ["size", "f"]))
+        self.assertEqual(trait.items[0].text, "ghost size: { Self → ℕ };")
+        self.assertEqual((given.kind, given.name), ("trait impl", "<'a, F: Fn(u8) -> u8> From<Option<&'a F>> for Given<'_, F>"))
+        self.assertIn("ghost gives = { λ x. x };", given.text)
+        self.assertNotIn("fn from", given.text)
+        self.assertEqual([one.within for one in given.items], ["Given"] * 4)
+        self.assertEqual([rattle.owner_of(head)[1] for head in ("<'a> Names<'a>", "A for B", "a::A<u8> for &'a mut [T]", "A, B")], ["Names", "B", "[T]", ""])
+
     def test_unread(self):
-        for text in ("trait T {}", "fn f( {}", "pub fn f() { ( }", "impl A for B {}", "static X: u8 = 1;", "/* "):
+        for text in ("union T {}", "fn f( {}", "pub fn f() { ( }", "impl A, B {}", "static X: u8 = 1;", "/* "):
             with self.assertRaises(rattle.Unread, msg=text):
                 rattle.items(text, "here")
 

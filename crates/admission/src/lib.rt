@@ -6,10 +6,13 @@ ghost use Rattle.std.specs.Prelude.{◌≡◌};
 ghost use Rattle.admission.specs.Numbers.{start_of, wild_of, torn_of, damaged_of, lost_of};
 ghost use Rattle.admission.specs.Admission.{closing_of, ended_of, close_of, ask_of};
 
+use basis::Refusal;
+
 // The numbers of an admission. `counted`: the bytes that came, 24,577 for more than a pack has; `want`: the bytes of the contents, as
 // far as it is known; `programs`, `end`: of good contents, how many programs there are and where their bodies end; `judged`: how many have
 // their verdict; `have`: the bytes of the next body; `refusal`: what refuses the contents, and after the close the pack, 0 for nothing; `closed`: 1 after the close.
-#[derive(Clone, Copy)]
+// Stays: the C interface: a host keeps the eight numbers, and `damaged` answers for any that it hands in, a refusal of 29 and a `closed` of 2 too.
+#[derive(Clone, Copy, PartialEq, Eq, Debug)]
 pub struct Admission {
     pub counted: usize,
     pub want: usize,
@@ -22,7 +25,8 @@ pub struct Admission {
 }
 
 // What a chunk or a close answers: a refusal's number, 0 for none, and the admission after it.
-#[derive(Clone, Copy)]
+// Stays: what may not change (`close` hands on the refusal that an admission holds, and the contracts of `closing`, `ended` and `ask` are of every number).
+#[derive(Clone, Copy, PartialEq, Eq, Debug)]
 pub struct Admitted {
     pub refusal: usize,
     pub admission: Admission,
@@ -49,25 +53,13 @@ pub fn start() -> Admission
 fn wild(st: Admission) -> bool
     ensures { result ≡ wild_of st }
 {
-    if 24577 < st.counted {
-        return true;
-    }
-    if st.want < 2 {
-        return true;
-    }
-    if 514 < st.want {
-        return true;
-    }
-    if 64 < st.programs {
-        return true;
-    }
-    if st.programs < st.judged {
-        return true;
-    }
-    if 16384 < st.have {
-        return true;
-    }
-    1 < st.closed
+    24577 < st.counted
+        || st.want < 2
+        || 514 < st.want
+        || 64 < st.programs
+        || st.programs < st.judged
+        || 16384 < st.have
+        || 1 < st.closed
 }
 
 // Whether the numbers contradict one another.
@@ -75,32 +67,24 @@ fn wild(st: Admission) -> bool
 fn torn(st: Admission) -> bool
     ensures { result ≡ torn_of st }
 {
-    if st.programs != 0 {
-        if st.counted < st.want {
-            return true;
-        }
-        return st.refusal != 0;
+    let refused = st.refusal != 0;
+    if st.programs == 0 {
+        refused && (st.refusal < 30 || 35 < st.refusal)
+    } else {
+        st.counted < st.want || refused
     }
-    if st.refusal == 0 {
-        return false;
-    }
-    if st.refusal < 30 {
-        return true;
-    }
-    35 < st.refusal
 }
 
 // Whether the numbers are none that an admission has.
+#[tactic(auto, unfolding(crate::specs::Numbers::damaged_of))]
 pub fn damaged(st: Admission) -> bool
     ensures { result ≡ damaged_of st }
 {
-    if wild(st) {
-        return true;
-    }
-    torn(st)
+    wild(st) || torn(st)
 }
 
 // What refuses the pack whatever follows, 0 for nothing.
+// Stays: a number, by the clause of `lost`: of any admission, whatever number it holds.
 #[tactic(auto, unfolding(crate::specs::Numbers::lost_of))]
 pub fn lost(st: Admission) -> usize
     ensures { result ≡ lost_of st }
@@ -108,29 +92,32 @@ pub fn lost(st: Admission) -> usize
     if st.counted <= 24576 {
         return st.refusal;
     }
-    31
+    usize::from(Refusal::LongPack)
 }
 
 // What refuses the pack whose bytes have all come, 0 for nothing.
+// Stays: a number, by the clause of `closing`, which `ended` and `close` hand on.
+#[tactic(auto, unfolding(crate::specs::Admission::closing_of))]
 fn closing(st: Admission) -> usize
     ensures { result ≡ closing_of st }
 {
     if 24576 < st.counted {
-        return 31;
+        return usize::from(Refusal::LongPack);
     }
     if st.counted < st.want {
-        return 30;
+        return usize::from(Refusal::CutContents);
     }
     if st.refusal != 0 {
         return st.refusal;
     }
     if st.end != st.counted {
-        return 34;
+        return usize::from(Refusal::WrongEnd);
     }
     0
 }
 
 // The pack has come, and is admitted or refused; a refused one has no verdicts.
+#[tactic(auto, unfolding(crate::specs::Admission::ended_of))]
 fn ended(st: Admission) -> Admitted
     ensures { result ≡ ended_of st }
 {
@@ -146,18 +133,19 @@ fn ended(st: Admission) -> Admitted
 }
 
 // The pack has come: its own refusal, or 0, and each program has its verdict. 91 for numbers that no admission has and 37 after the close change nothing.
+#[tactic(auto, unfolding(crate::specs::Admission::close_of))]
 pub fn close(st: Admission) -> Admitted
     ensures { result ≡ close_of st }
 {
     if damaged(st) {
         return Admitted {
-            refusal: 91,
+            refusal: usize::from(Refusal::Damaged),
             admission: st,
         };
     }
     if st.closed != 0 {
         return Admitted {
-            refusal: 37,
+            refusal: usize::from(Refusal::Closed),
             admission: st,
         };
     }
@@ -165,11 +153,13 @@ pub fn close(st: Admission) -> Admitted
 }
 
 // The answer so far: after the close the first close's, 0 before it; 91 for numbers that no admission has.
+// Stays: a number, by the clause of `ask`: after the close the one that the admission holds.
+#[tactic(auto, unfolding(crate::specs::Admission::ask_of))]
 pub fn ask(st: Admission) -> usize
     ensures { result ≡ ask_of st }
 {
     if damaged(st) {
-        return 91;
+        return usize::from(Refusal::Damaged);
     }
     if st.closed == 0 {
         return 0;

@@ -1,8 +1,8 @@
 // The value operations of the machine, on sixteen bits.
 #![tactic(auto)]
 
-ghost use Rattle.std.specs.Prelude.{◌≡◌, Bool, ◌+◌, ◌-◌, ◌*◌, ◌%◌, ◌^◌};
-ghost use Rattle.alu.specs.Values.{flag, pair_of, single_of, shl_of, shr_of};
+ghost use Rattle.std.specs.Prelude.{◌≡◌};
+ghost use Rattle.alu.specs.Values.{pair_of, single_of};
 
 // An operation on a and b.
 #[derive(Clone, Copy)]
@@ -32,70 +32,25 @@ pub enum Single {
     Neg,
 }
 
-fn flag_of(t: bool) -> u16
-    ensures { result ≡ flag t }
-{
-    if t {
-        return 1;
-    }
-    0
-}
-
-fn add(a: u16, b: u16) -> u16
-    ensures { result ≡ (a + b) % 65536 }
-{
-    ((a as u32 + b as u32) % 65536) as u16
-}
-
-fn sub(a: u16, b: u16) -> u16
-    ensures { result ≡ (65536 + a - b) % 65536 }
-{
-    ((65536 + a as u32 - b as u32) % 65536) as u16
-}
-
-fn mul(a: u16, b: u16) -> u16
-    ensures { result ≡ (a * b) % 65536 }
-{
-    ((a as u32 * b as u32) % 65536) as u16
-}
-
-fn shl(a: u16, b: u16) -> u16
-    ensures { result ≡ shl_of a b }
-{
-    if b < 16 {
-        return a << b;
-    }
-    0
-}
-
-fn shr(a: u16, b: u16) -> u16
-    ensures { result ≡ shr_of a b }
-{
-    if b < 16 {
-        return a >> b;
-    }
-    0
-}
-
 // What the operation makes of a and b.
 pub fn combine(pair: Pair, a: u16, b: u16) -> u16
     ensures { result ≡ pair_of pair a b }
 {
     match pair {
-        Pair::Eq => flag_of(a == b),
-        Pair::Ne => flag_of(a != b),
-        Pair::Le => flag_of(a <= b),
-        Pair::Gt => flag_of(b < a),
-        Pair::Lt => flag_of(a < b),
-        Pair::Ge => flag_of(b <= a),
+        Pair::Eq => u16::from(a == b),
+        Pair::Ne => u16::from(a != b),
+        Pair::Le => u16::from(a <= b),
+        Pair::Gt => u16::from(a > b),
+        Pair::Lt => u16::from(a < b),
+        Pair::Ge => u16::from(a >= b),
         Pair::And => a & b,
         Pair::Or => a | b,
         Pair::Xor => a ^ b,
-        Pair::Add => add(a, b),
-        Pair::Sub => sub(a, b),
-        Pair::Mul => mul(a, b),
-        Pair::Shl => shl(a, b),
-        Pair::Shr => shr(a, b),
+        Pair::Add => a.wrapping_add(b),
+        Pair::Sub => a.wrapping_sub(b),
+        Pair::Mul => a.wrapping_mul(b),
+        Pair::Shl => a.checked_shl(u32::from(b)).unwrap_or(0),
+        Pair::Shr => a.checked_shr(u32::from(b)).unwrap_or(0),
     }
 }
 
@@ -104,9 +59,9 @@ pub fn change(single: Single, a: u16) -> u16
     ensures { result ≡ single_of single a }
 {
     match single {
-        Single::Inc => add(a, 1),
-        Single::Dec => sub(a, 1),
-        Single::Not => 65535 - a,
-        Single::Neg => sub(0, a),
+        Single::Inc => a.wrapping_add(1),
+        Single::Dec => a.wrapping_sub(1),
+        Single::Not => !a,
+        Single::Neg => a.wrapping_neg(),
     }
 }

@@ -1,11 +1,10 @@
 -- Instructions as numbers.
-use Rattle.std.specs.Prelude.{ℕ}
+use Rattle.std.specs.Prelude.{ℕ, Option, Some, None}
 use Rattle.basis.specs.Answer.{Answer, given, refused}
 use Rattle.decoder.specs.Decode.{Reading}
 use Rattle.isa.specs.declared.Instruction.{Instruction}
 use Rattle.answers.specs.declared.KhxInstruction.{KhxInstruction}
-use Rattle.shapes.specs.declared.Shape.{Shape}
-use Rattle.shapes.specs.declared.Shape.TheVariants.{Row, Illegal}
+use Rattle.shapes.specs.declared.row.Row.{Row}
 use Rattle.answers.specs.declared.KhxDecoded.{KhxDecoded}
 use Rattle.answers.specs.declared.KhxRow.{KhxRow}
 
@@ -49,6 +48,6 @@ abbrev pub read_in : Answer Reading × ℕ → KhxDecoded × ℕ
 read_in t = (decoded_in t.0, t.1)
 
 -- the row of a first byte; or 2, by which the decoder refuses it, all else 0
-abbrev pub row_in : Shape → KhxRow
-row_in (Row length taken pushed) = record { refusal = 0; length = length; taken = taken; pushed = pushed }
-row_in Illegal = record { refusal = 2; length = 0; taken = 0; pushed = 0 }
+abbrev pub row_in : Option Row → KhxRow
+row_in (Some r) = record { refusal = 0; length = r.length; taken = r.taken; pushed = r.pushed }
+row_in None = record { refusal = 2; length = 0; taken = 0; pushed = 0 }

@@ -1,5 +1,6 @@
 -- What packs answer, as numbers.
 use Rattle.std.specs.Prelude.{ℕ}
+use Rattle.std.specs.Prelude as rust
 use Rattle.std.proofs.Math.Option.{Option, none, some}
 use Rattle.basis.specs.Answer.{Answer, given, refused}
 use Rattle.pack.specs.declared.Entry.{Entry}
@@ -24,6 +25,12 @@ abbrev pub listed_in : Answer (Option Entry) → KhxEntry
 listed_in (given (some e)) = entry_in e
 listed_in (given none) = no_entry 0
 listed_in (refused k) = no_entry k
+
+-- the same, as the code answers it
+abbrev pub placed_in : Answer (rust.Option Entry) → KhxEntry
+placed_in (given (rust.Some e)) = entry_in e
+placed_in (given rust.None) = no_entry 0
+placed_in (refused k) = no_entry k
 
 -- the entry of a tag
 abbrev pub found_in : Answer Entry → KhxEntry

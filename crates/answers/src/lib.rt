@@ -1,6 +1,13 @@
 // The answers of the public functions, and a machine's state, as structs of numbers that C can hold. A refusal of 0 is none.
-// What each number says stands in specs/; there is no code.
+// What each number says stands in specs/; the code makes them of the answers, and a state and an instruction of what C hands in.
+// Stays: numbers for refusals, kinds and flags, by the C interface.
 #![tactic(auto)]
+
+mod instructions;
+mod packs;
+mod runs;
+mod verdicts;
+mod written;
 
 // An instruction as a value. What the form lacks is 0. Bit i of the flags is set where value i has two bytes.
 #[repr(C)]

@@ -28,10 +28,6 @@ module _ (x : ℕ) (m : Mach) where
       byte_past h = rw (lt-ltb _ _ small, le-ltb _ _ told, le-ltb _ _ h)
 
       module _ (some : m.st.judged < m.st.programs) where
-        pub byte_full : 16384 ≤ m.st.have → counted_as (m.st.counted + 1) m ≡ byte_of x m
-        unfolding byte_of
-        byte_full h = rw (lt-ltb _ _ small, le-ltb _ _ told, lt-ltb _ _ some, le-ltb _ _ h)
-
         pub byte-body :
             (n : Mach) → m.st.have < 16384
             → n ≡ settled (mach (judges m.st.judged (m.st.have + 1) (counts (m.st.counted + 1) m.st)) m.contents (set m.body m.st.have x) m.map m.verdicts)

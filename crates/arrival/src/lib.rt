@@ -7,9 +7,10 @@ ghost use Rattle.admission.specs.Fit.{Sound, Fit};
 ghost use Rattle.arrival.specs.Plain.{Plain};
 
 use admission::Admission;
-use pack::Bodies;
+use basis::Refusal;
 
 // After the second byte: how long the contents are, or 30.
+// Stays: the length of the contents as a clause, since they are lent by themselves, as `settling::settle` says.
 #[tactic(auto, unfolding(admission::specs::Admission::sized_of))]
 fn sized(st: Admission, contents: &[u8]) -> Admission
     requires { 514 ≤ length contents.now }
@@ -21,7 +22,7 @@ fn sized(st: Admission, contents: &[u8]) -> Admission
     let mut next = st;
     let n = basis::number_at(2, contents, 0) as usize;
     if 64 < n {
-        next.refusal = 30;
+        next.refusal = usize::from(Refusal::CutContents);
         return next;
     }
     next.want = 2 + 8 * n;
@@ -29,31 +30,28 @@ fn sized(st: Admission, contents: &[u8]) -> Admission
 }
 
 // After the last byte of the contents: what they say.
+#[tactic(auto, unfolding(admission::specs::Admission::opened_of))]
 fn opened(st: Admission, contents: &[u8]) -> Admission
     requires { 514 ≤ length contents.now }
     ensures { result ≡ opened_of st contents.now }
 {
-    if st.counted != st.want {
-        return st;
-    }
-    if st.refusal != 0 {
+    if st.counted != st.want || st.refusal != 0 {
         return st;
     }
     let mut next = st;
     match pack::contents_end(contents) {
-        Bodies::End(end) => {
+        Ok(end) => {
             next.end = end;
             next.programs = basis::number_at(2, contents, 0) as usize;
-            next
         }
-        Bodies::Refused(number) => {
-            next.refusal = number;
-            next
-        }
+        Err(why) => next.refusal = usize::from(why),
     }
+    next
 }
 
 // One byte comes.
+// Stays: what may not change (six arguments, as `settling::settle` says).
+#[tactic(auto, unfolding(admission::specs::Admission::byte_of, admission::specs::Admission::contents_byte, admission::specs::Admission::body_byte))]
 pub fn take_byte(
     st: Admission,
     byte: u8,
@@ -78,10 +76,7 @@ pub fn take_byte(
         let told = opened(sized(next, contents), contents);
         return settling::settle(told, contents, body, map, verdicts);
     }
-    if st.programs <= st.judged {
-        return next;
-    }
-    if 16384 <= h {
+    if st.programs <= st.judged || 16384 <= h {
         return next;
     }
     body[h] = byte;
@@ -89,16 +84,7 @@ pub fn take_byte(
     settling::settle(next, contents, body, map, verdicts)
 }
 
-// The less of two numbers.
-fn least(a: usize, b: usize) -> usize
-    ensures { (result ≤ a) × (result ≤ b) }
-{
-    if a < b {
-        return a;
-    }
-    b
-}
-
+// Stays: 0 for none: it is a number of bytes, and fewer are as right (docs/STATEMENTS.md).
 // How many of the next `left` bytes are only stored, since they end neither the count of the contents, nor the contents, nor a body; 0 where it may be none.
 pub fn plain(st: Admission, contents: &[u8], left: usize) -> usize
     requires { (st.programs ≤ 64) × (514 ≤ length contents.now) }
@@ -108,22 +94,16 @@ pub fn plain(st: Admission, contents: &[u8], left: usize) -> usize
         if st.counted < 2 {
             return 0;
         }
-        return least(st.want - st.counted - 1, left);
+        return left.min(st.want - st.counted - 1);
     }
-    if st.programs <= st.judged {
-        return 0;
-    }
-    if 24576 <= st.counted {
+    if st.programs <= st.judged || 24576 <= st.counted {
         return 0;
     }
     let need = basis::number_at(2, contents, 8 + 8 * st.judged) as usize;
-    if 16384 < need {
+    if 16384 < need || need <= st.have {
         return 0;
     }
-    if need <= st.have {
-        return 0;
-    }
-    least(least(need - st.have - 1, 24576 - st.counted), left)
+    left.min(need - st.have - 1).min(24576 - st.counted)
 }
 
 // Bytes that are only stored come.

@@ -3,3 +3,4 @@ pub mod Tests
 pub mod Tables
 pub mod Numbers
 pub mod Stores
+pub mod Refusals

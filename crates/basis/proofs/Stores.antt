@@ -19,9 +19,15 @@ sets-append (x ∷ xs) l ys at = sets-append xs (set l at x) ys (suc at) ∙ rw 
 pub sets-bytes : (l ys : List ℕ) (at w v : ℕ) → sets l at (bytes_of w v ++ ys) ≡ sets (sets l at (bytes_of w v)) (at + w) ys
 sets-bytes l ys at w v = sets-append (bytes_of w v) l ys at ∙ rw length-bytes
 
+-- for the search
+pub ruleset parts = (sets-bytes)
+
 -- stores at the start of a room
 pub sets-start : (vs l : List ℕ) → length vs ≤ length l → sets l 0 vs ≡ vs ++ drop (length vs) l
 sets-start vs l h = sets-eq vs l 0 (omega arith) ∙ rw zero-add
+
+-- for the search
+pub ruleset starts = (sets-start)
 
 -- the part of a list from a place to its end
 pub tail : (at : ℕ) (p : List ℕ) → take (length p - at) (drop at p) ≡ drop at p

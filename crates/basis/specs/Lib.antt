@@ -3,3 +3,4 @@ pub mod Pick
 pub mod Answer
 pub mod Number
 pub mod Room
+pub mod Refusal

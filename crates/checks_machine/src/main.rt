@@ -5,153 +5,78 @@
 // is longer than what is given of it repeats that.
 #![tactic(auto)]
 
-ghost use Rattle.std.specs.Prelude.{◌≤◌, IfOk};
-
-use machine::{Ran, State, Status};
+use machine::{Ran, State, Status, Unrun};
 use std::io;
-use vectors::{given, rooms, said};
+use vectors::said::{Memory, Refused};
+use vectors::{Case, LONGEST};
 
-fn say_status(rt: &impl Print, status: Status) -> io::Result<()> {
-    match status {
-        Status::Running => said::text(rt, b" running"),
-        Status::Halted => said::text(rt, b" halted"),
-        Status::Faulted(n) => {
-            said::text(rt, b" faulted:")?;
-            said::decimal(rt, n)
+fn say_state(rt: &impl Print, state: State) -> io::Result<()> {
+    print!(rt; " {} {}", state.address, state.depth)?;
+    match state.status {
+        Status::Running => print!(rt; " running"),
+        Status::Halted => print!(rt; " halted"),
+        Status::Faulted(number) => print!(rt; " faulted:{number}"),
+    }
+}
+
+fn say_answer(rt: &impl Print, answer: Result<Ran, Unrun>) -> io::Result<()> {
+    match answer {
+        Ok(ran) => {
+            print!(rt; "ok {}", ran.steps)?;
+            say_state(rt, ran.state)
+        }
+        Err(unrun) => {
+            rt.print(Refused(unrun.refusal))?;
+            say_state(rt, unrun.state)
         }
     }
 }
 
-fn say_state(rt: &impl Print, state: State) -> io::Result<()> {
-    said::number(rt, state.address)?;
-    said::number(rt, state.depth)?;
-    let status = state.status;
-    say_status(rt, status)
+fn status(case: &mut Case<'_>) -> Status {
+    let kind = case.byte();
+    let fault = case.byte();
+    match kind {
+        0 => Status::Running,
+        1 => Status::Halted,
+        _ => Status::Faulted(usize::from(fault)),
+    }
 }
 
-fn say_answer(rt: &impl Print, ran: Ran) -> io::Result<()> {
-    match ran {
-        Ran::Came(state, steps) => {
-            said::ok(rt, steps as usize)?;
-            say_state(rt, state)
-        }
-        Ran::Refused(n, state) => {
-            said::refused(rt, n)?;
-            say_state(rt, state)
-        }
+fn state(case: &mut Case<'_>) -> State {
+    State {
+        address: case.long() as usize,
+        depth: usize::from(case.number()),
+        status: status(case),
     }
 }
 
 // A budget of one asks the single step.
-fn answer(program: &[u8], data: &mut [u8], cells: &mut [u16], state: State, budget: u32) -> Ran {
-    if budget == 1 {
-        return state.step(program, data, cells);
+fn ask_machine<R: Print + AllocGlobal>(rt: &R, case: &mut Case<'_>) -> io::Result<()> {
+    let length = case.number();
+    let program = case.memory::<u8>(rt.alloc(), usize::from(length))?;
+    let length = case.long() as usize;
+    let mut data = case.memory::<u8>(rt.alloc(), length.min(LONGEST))?;
+    let length = case.number();
+    let mut cells = case.memory::<u16>(rt.alloc(), usize::from(length))?;
+    let state = state(case);
+    let answer = match case.long() {
+        1 => state.step(&program, &mut data, &mut cells),
+        budget => state.run(&program, &mut data, &mut cells, budget),
+    };
+    say_answer(rt, answer)?;
+    print!(rt; " {}", Memory(&data, LONGEST))?;
+    print!(rt; " {}", Memory(&cells, LONGEST))
+}
+
+// The answer to a case; whether there is its kind.
+fn ask<R: Print + AllocGlobal>(rt: &R, kind: u8, case: &mut Case<'_>) -> io::Result<bool> {
+    match kind {
+        b'R' => ask_machine(rt, case)?,
+        _ => return Ok(false),
     }
-    state.run(program, data, cells, budget)
-}
-
-fn ask(
-    rt: &impl Print,
-    program: &[u8],
-    data: &mut [u8],
-    cells: &mut [u16],
-    state: State,
-    budget: u32,
-) -> io::Result<()> {
-    let ran = answer(program, data, cells, state, budget);
-    say_answer(rt, ran)?;
-    said::bytes(rt, data, 65600)?;
-    said::cells(rt, cells, 65600)
-}
-
-fn status_of(kind: u8, fault: u8) -> Status {
-    if kind == 0 {
-        return Status::Running;
-    }
-    if kind == 1 {
-        return Status::Halted;
-    }
-    Status::Faulted(fault as usize)
-}
-
-// The state in eight bytes.
-fn state_in(bytes: &[u8]) -> State {
-    let status = status_of(given::byte(bytes, 6), given::byte(bytes, 7));
-    State {
-        address: given::long(bytes, 0) as usize,
-        depth: given::number(bytes, 4) as usize,
-        status,
-    }
-}
-
-// A case from its cells on; how many bytes that is.
-fn ask_cells(rt: &impl Print, program: &[u8], data: &mut [u8], case: &[u8]) -> io::Result<usize>
-    ensures { IfOk result (λ n. n ≤ 131086) }
-{
-    let n = 2 * (given::number(case, 2) as usize);
-    let end = 4 + n;
-    let mut cells = rooms::cells();
-    let size = given::cells(
-        given::part(case, 4, n),
-        given::number(case, 0) as usize,
-        &mut cells,
-    );
-    let state = state_in(given::rest(case, end));
-    ask(
-        rt,
-        program,
-        data,
-        &mut cells[0..size],
-        state,
-        given::long(case, end + 8),
-    )?;
-    Ok(end + 12)
-}
-
-// A case from its data on.
-fn ask_data(rt: &impl Print, program: &[u8], case: &[u8]) -> io::Result<usize>
-    ensures { IfOk result (λ n. n ≤ 196627) }
-{
-    let n = given::number(case, 4) as usize;
-    let end = 6 + n;
-    let mut data = rooms::bytes();
-    let size = given::bytes(
-        given::part(case, 6, n),
-        given::long(case, 0) as usize,
-        &mut data,
-    );
-    let read = ask_cells(rt, program, &mut data[0..size], given::rest(case, end))?;
-    Ok(end + read)
-}
-
-// The case at the beginning; how many bytes that is, 0 where it is of no kind.
-fn ask_case(rt: &impl Print, case: &[u8]) -> io::Result<usize> {
-    if given::byte(case, 0) != 0x52 {
-        return Ok(0);
-    }
-    let n = given::number(case, 3) as usize;
-    let end = 5 + n;
-    let mut program = rooms::bytes();
-    let size = given::bytes(
-        given::part(case, 5, n),
-        given::number(case, 1) as usize,
-        &mut program,
-    );
-    let read = ask_data(rt, &program[0..size], given::rest(case, end))?;
-    Ok(end + read)
-}
-
-fn ask_all(rt: &impl Print, cases: &[u8]) -> io::Result<()> {
-    let mut at: usize = 0;
-    while at < cases.len() {
-        let read = ask_case(rt, given::rest(cases, at))?;
-        at = said::line(rt, cases, at, read)?;
-    }
-    Ok(())
+    Ok(true)
 }
 
 fn main(rt: HostRuntime) -> io::Result<()> {
-    let mut cases = rooms::sheet();
-    let n = input::read_full(&mut rt.reader(), &mut cases)?;
-    ask_all(&rt, &cases[0..n])
+    vectors::run_cases(&rt, |kind, case| ask(&rt, kind, case))
 }

@@ -5,65 +5,36 @@
 #![tactic(auto)]
 
 use std::io;
-use vectors::{given, pieces, rooms, said};
-use verifier::Verdict;
+use vectors::said::{Memory, Refused};
+use vectors::{Case, LONGEST, pieces};
+use verifier::Rejected;
 
-fn say_verdict(rt: &impl Print, verdict: Verdict) -> io::Result<()> {
+fn say_verdict(rt: &impl Print, verdict: Result<(), Rejected>) -> io::Result<()> {
     match verdict {
-        Verdict::Accepted => said::text(rt, b"accepted"),
-        Verdict::Refused(n) => {
-            said::refused(rt, n)?;
-            said::text(rt, b" -")
-        }
-        Verdict::RefusedAt(n, address) => {
-            said::refused(rt, n)?;
-            said::number(rt, address)
-        }
+        Ok(()) => print!(rt; "accepted"),
+        Err(Rejected::Before(why)) => print!(rt; "{} -", Refused(why)),
+        Err(Rejected::At(why, address)) => print!(rt; "{} {address}", Refused(why)),
     }
 }
 
-fn ask(rt: &impl Print, program: &[u8], cells: usize, map: &mut [u16]) -> io::Result<()> {
-    let verdict = verifier::verify(program, cells, map);
-    say_verdict(rt, verdict)?;
-    said::cells(rt, map, 256)
+fn ask_verifier<R: Print + AllocGlobal>(rt: &R, case: &mut Case<'_>) -> io::Result<()> {
+    let cells = case.long() as usize;
+    let length = case.long() as usize;
+    let mut map = case.memory::<u16>(rt.alloc(), length.min(LONGEST))?;
+    let program = pieces::lay(rt.alloc(), case)?;
+    say_verdict(rt, verifier::verify(&program, cells, &mut map))?;
+    print!(rt; " {}", Memory(&map, 256))
 }
 
-// Asks with the map of a case, of which n bytes are given.
-fn ask_with(rt: &impl Print, program: &[u8], case: &[u8], n: usize) -> io::Result<()> {
-    let cells = given::long(case, 1) as usize;
-    let mut map = rooms::cells();
-    let end = given::cells(
-        given::part(case, 11, n),
-        given::long(case, 5) as usize,
-        &mut map,
-    );
-    ask(rt, program, cells, &mut map[0..end])
-}
-
-// The case at the beginning; how many bytes that is, 0 where it is of no kind.
-fn ask_case(rt: &impl Print, case: &[u8]) -> io::Result<usize> {
-    if given::byte(case, 0) != 0x56 {
-        return Ok(0);
+// The answer to a case; whether there is its kind.
+fn ask<R: Print + AllocGlobal>(rt: &R, kind: u8, case: &mut Case<'_>) -> io::Result<bool> {
+    match kind {
+        b'V' => ask_verifier(rt, case)?,
+        _ => return Ok(false),
     }
-    let n = 2 * (given::number(case, 9) as usize);
-    let end = 11 + n;
-    let mut room = rooms::bytes();
-    let laid = pieces::lay(given::rest(case, end), &mut room);
-    ask_with(rt, given::part(&room, 0, laid.reach), case, n)?;
-    Ok(end + laid.read)
-}
-
-fn ask_all(rt: &impl Print, cases: &[u8]) -> io::Result<()> {
-    let mut at: usize = 0;
-    while at < cases.len() {
-        let read = ask_case(rt, given::rest(cases, at))?;
-        at = said::line(rt, cases, at, read)?;
-    }
-    Ok(())
+    Ok(true)
 }
 
 fn main(rt: HostRuntime) -> io::Result<()> {
-    let mut cases = rooms::sheet();
-    let n = input::read_full(&mut rt.reader(), &mut cases)?;
-    ask_all(&rt, &cases[0..n])
+    vectors::run_cases(&rt, |kind, case| ask(&rt, kind, case))
 }

@@ -9,18 +9,15 @@ use mathlib.Core.Bool.{true, false}
 use mathlib.Core.List.{List, [], ◌∷◌, ◌++◌}
 use lib.ListN.{length, get_or, set, take, drop, length-drop}
 use lib.Seq.{sets, drop-cons, take-suc, length-take-le, get_or-drop, set_comm}
+use Rattle.basis.specs.Answer.{given, refused}
 use Rattle.basis.specs.Pick.{pick}
 use Rattle.isa.specs.Op.{Op, DataCopy, ProgramCopy}
 use Rattle.isa.specs.Shape.{taken_of, pushed_of, way_of}
 use Rattle.effects.specs.Memory.{operand_of, pushed, good, copied}
 use Rattle.effects.specs.Effect.{fails, leaves, effect_of, goes, going_of}
-use Rattle.effects.specs.Act.{done, do_of}
-use Rattle.effects.specs.declared.Move.TheVariants.{To, Fault}
+use Rattle.effects.specs.Act.{became, do_of}
+use Rattle.effects.specs.declared.Move.TheVariants.{To}
 use Rattle.effects.proofs.Opens as opens
-
--- no byte is left
-pub copied_none : (source : List ℕ) (n a b : ℕ) (mem : List ℕ) → n ≡ 0 → copied source n a b mem ≡ mem
-copied_none source n a b mem e = rw e
 
 -- the first byte, then the rest
 pub copied-first :
@@ -78,19 +75,19 @@ module _ (program : List ℕ) (next depth : ℕ) (mem cells : List ℕ) (enough 
 
 module _ {program : List ℕ} {next : ℕ} {o : Op} {depth : ℕ} {mem cells source after : List ℕ} {a b c n : ℕ} (x : Copies program next o depth mem cells source after a b c n) where
   -- 6
-  pub target-fails : good mem a c ≡ false → done (Fault 6 0) mem cells ≡ do_of program next o depth mem cells
+  pub target-fails : good mem a c ≡ false → became (refused 6) mem cells ≡ do_of program next o depth mem cells
   target-fails h =
       sym (opens.failed program next o depth mem cells (depth - 3 + 1) (omega arith) (rw (x.taken, x.pushes)) (omega arith) 6 (x.effect ∙ rw h))
 
   -- 6 for data, 7 for the program
-  pub source-fails : good mem a c ≡ true → good source b c ≡ false → done (Fault n 0) mem cells ≡ do_of program next o depth mem cells
+  pub source-fails : good mem a c ≡ true → good source b c ≡ false → became (refused n) mem cells ≡ do_of program next o depth mem cells
   source-fails g h =
       sym (opens.failed program next o depth mem cells (depth - 3 + 1) (omega arith) (rw (x.taken, x.pushes)) (omega arith) n (x.effect ∙ rw (g, h)))
 
   -- the copy is done
   pub copies :
       good mem a c ≡ true → good source b c ≡ true
-      → done (To next (depth - 3 + 1)) after (pushed cells (depth - 3) ((a + c) % 65536 ∷ [])) ≡ do_of program next o depth mem cells
+      → became (given (To next (depth - 3 + 1))) after (pushed cells (depth - 3) ((a + c) % 65536 ∷ [])) ≡ do_of program next o depth mem cells
   copies g h =
       sym
       (rw x.taken at

@@ -1,5 +1,7 @@
 // The copies, from data and from the program: each takes three operands, checks 4, 6 and 7, copies and pushes one value.
-#![tactic(auto)]
+// Stays: `depth` and `cells` as two arguments, tried in stack as one struct, whose line says what failed.
+// Stays: two copies, and not one over its source: the one from the data borrows what it writes.
+#![tactic(auto, unfolding(effects::specs::Act::do_of, isa::specs::Shape::depth_after))]
 
 ghost use Rattle.std.specs.Prelude.{◌≡◌, ◌+◌, leb};
 

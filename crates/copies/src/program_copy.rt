@@ -5,6 +5,7 @@ ghost use Rattle.effects.specs.Memory.{copied};
 ghost use Rattle.effects.specs.Act.{done, do_of};
 
 use crate::inside;
+use basis::Refusal;
 use effects::Move;
 use memory::{push, sum};
 
@@ -13,14 +14,10 @@ fn copy_bytes(to: u16, from: u16, count: u16, program: &[u8], data: &mut [u8])
     requires { (to + count ≤ length «data».old) × (from + count ≤ length program.now) }
     ensures { «data».new ≡ copied program.now count to from «data».old }
 {
-    let mut target = to as usize;
-    let mut source = from as usize;
-    let mut left = count as usize;
-    while 0 < left {
-        data[target] = program[source];
-        target += 1;
-        source += 1;
-        left -= 1;
+    let (to, from) = (to as usize, from as usize);
+    // Stays: a loop, by the C interface: it becomes memcpy, and `copy_from_slice` memmove, which the library may not need (tools/archive).
+    for k in 0..count as usize {
+        data[to + k] = program[from + k];
     }
 }
 
@@ -31,12 +28,12 @@ pub fn copy_program(
     program: &[u8],
     data: &mut [u8],
     cells: &mut [u16],
-) -> Move
+) -> Result<Move, Refusal>
     requires { depth ≤ length cells.old }
     ensures { done result «data».new cells.new ≡ do_of program.now next ProgramCopy depth «data».old cells.old }
 {
     if depth < 3 {
-        return Move::Fault(4, 0);
+        return Err(Refusal::TooFew);
     }
     let i = cells.len() - depth;
     let j = i + 1;
@@ -45,11 +42,11 @@ pub fn copy_program(
     let b = cells[j];
     let c = cells[k];
     if !inside(a, c, data.len()) {
-        return Move::Fault(6, 0);
+        return Err(Refusal::DataRange);
     }
     if !inside(b, c, program.len()) {
-        return Move::Fault(7, 0);
+        return Err(Refusal::ProgramRange);
     }
     copy_bytes(a, b, c, program, data);
-    push((sum(a, c) % 65536) as u16, next, depth - 3, cells)
+    Ok(push((sum(a, c) % 65536) as u16, next, depth - 3, cells))
 }

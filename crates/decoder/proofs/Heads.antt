@@ -1,4 +1,4 @@
--- Laws of what an instruction begins with, told of its parts as locals hold them: its answers, and the room for its values.
+-- Laws of what an instruction begins with, told of its parts as locals hold them.
 -- Assumes nothing.
 use Prim.Native.Nat.{ℕ, ◌+◌, ◌≤◌, ◌<◌}
 use native.Mathlib.Omega.{arith}
@@ -8,33 +8,11 @@ use lib.ListN.{length, get_or}
 use lib.Count.{ones}
 use borrow.Author.Tests.{lt-ltb, le-ltb, eq-eqb, ne_eqb}
 use Rattle.basis.specs.Answer.{given, refused}
-use Rattle.basis.specs.Number.{number_at}
-use Rattle.forms.specs.Form.{form_of, code_of, width_in, limit_in, count_in, flags_in, length_of, value_width, width0, width1, width2, width3}
+use Rattle.forms.specs.Form.{form_of, code_of, width_in, limit_in, count_in, flags_in, length_of, width0, width1, width2, width3}
 use Rattle.forms.specs.declared.Form.{Form}
-use Rattle.forms.proofs.Widths.{count-le, value-width-le, widths-sum, Legal, legal}
+use Rattle.forms.proofs.Widths.{count-le, widths-sum, Legal, legal}
 use Rattle.decoder.specs.Decode.{number_in, with_values, head_of}
 use Rattle.isa.specs.declared.Instruction.{Instruction}
-
--- a value has at most two bytes
-pub narrow : (w k count flags : ℕ) → w ≡ value_width k count flags → w ≤ 2
-narrow w k count flags e = rw e (value-width-le k count flags)
-
--- the values stand one after the other, within n
-pub record Room (at n w0 w1 w2 w3 : ℕ) : Type 0 where
-  pub first : at + w0 ≤ n
-  pub second : at + w0 + w1 ≤ n
-  pub third : at + w0 + w1 + w2 ≤ n
-  pub fourth : at + w0 + w1 + w2 + w3 ≤ n
-
-pub room : (at n w0 w1 w2 w3 x0 x1 x2 x3 : ℕ) → w0 ≡ x0 → w1 ≡ x1 → w2 ≡ x2 → w3 ≡ x3 → at + x0 + x1 + x2 + x3 ≤ n → Room at n w0 w1 w2 w3
-room at n w0 w1 w2 w3 x0 x1 x2 x3 e0 e1 e2 e3 h = record { first = omega arith; second = omega arith; third = omega arith; fourth = omega arith }
-
--- the widths and the values that were read make the instruction
-pub valued : (code number count flags : ℕ) (s : List ℕ) (at w0 w1 w2 w3 v0 v1 v2 v3 : ℕ)
-    → w0 ≡ width0 count flags → w1 ≡ width1 count flags → w2 ≡ width2 count flags → w3 ≡ width3 count flags
-    → v0 ≡ number_at w0 s at → v1 ≡ number_at w1 s (at + w0) → v2 ≡ number_at w2 s (at + w0 + w1) → v3 ≡ number_at w3 s (at + w0 + w1 + w2)
-    → ◌≡◌ {A = Instruction} record { code = code; number = number; count = count; flags = flags; v0 = v0; v1 = v1; v2 = v2; v3 = v3 } (with_values code number count flags s at)
-valued code number count flags s at w0 w1 w2 w3 v0 v1 v2 v3 e0 e1 e2 e3 f0 f1 f2 f3 = rw (f0, f1, f2, f3, e0, e1, e2, e3)
 
 -- the length, the code and the form of the first byte
 module _ (s : List ℕ) (n code : ℕ) (f : Form) (en : n ≡ length_of (get_or s 0 0)) (ec : code ≡ code_of (get_or s 0 0)) (ef : f ≡ form_of code) (some : n ≡ 0 → ⊥) where

@@ -1,5 +1,4 @@
 -- The laws of `decoder`.
-pub mod Answers
 pub mod Refuses
 pub mod Numbers
 pub mod Lengths

@@ -7,8 +7,6 @@ use Rattle.forms.specs.Form.{form_of, code_of, width_in, limit_in, count_in, fla
 use Rattle.forms.specs.declared.Form.{Form}
 use Rattle.forms.specs.declared.Form.TheVariants.{Plain, Byte, Shift, Word, Short, Values, Illegal}
 use Rattle.isa.specs.declared.Instruction.{Instruction}
-use Rattle.decoder.specs.declared.Decoded.{Decoded}
-use Rattle.decoder.specs.declared.Decoded.TheVariants.{Read, Refused}
 
 -- the number of the instruction that s begins with: a short push has it in the first byte, the others after it
 abbrev pub number_in : Form → List ℕ → ℕ
@@ -59,8 +57,3 @@ decode_of program at =
     pick (ltb 16384 (length program)) (refused 20)
     (pick (leb (length program) at) (refused 1)
     (head_of (drop at program)))
-
--- the code's answer as 01 gives it
-abbrev pub decoded_answer : Decoded → Answer Reading
-decoded_answer (Read i n) = given (i, n)
-decoded_answer (Refused n) = refused n

@@ -2,20 +2,14 @@
 #![tactic(auto)]
 
 ghost use Rattle.std.specs.Prelude.{◌≡◌, ◌+◌, ◌≤◌, ◌<◌, length, get_or};
+ghost use Rattle.basis.specs.Refusal.{answer_of};
 ghost use Rattle.forms.specs.Form.{length_of, width_in, width0, width1, width2, width3};
-ghost use Rattle.shapes.specs.Shapes.{shape_rows};
-ghost use Rattle.decoder.specs.Decode.{number_in, with_values, head_of, decode_of, decoded_answer};
+ghost use Rattle.decoder.specs.Decode.{number_in, with_values, head_of, decode_of};
 
+use basis::Refusal;
 use forms::{Form, code_of, count_in, flags_in, form_of, limit_in, value_width, width_in};
 use isa::Instruction;
-use shapes::Shape;
-
-// What stands at an address: an instruction and its length, or a refusal's number.
-#[derive(Clone, Copy)]
-pub enum Decoded {
-    Read(Instruction, usize),
-    Refused(usize),
-}
+use shapes::Shapes;
 
 // The number of the instruction that s begins with.
 fn number_in(form: Form, s: &[u8]) -> u16
@@ -34,6 +28,7 @@ fn number_in(form: Form, s: &[u8]) -> u16
 }
 
 // The instruction with these parts, its values beginning at a place of s.
+#[tactic(auto, using(forms::proofs::Widths::narrow))]
 fn with_values(code: u8, number: u16, count: u8, flags: u8, s: &[u8], at: usize) -> Instruction
     requires { at + width0 count flags + width1 count flags + width2 count flags + width3 count flags ≤ length s.now }
     ensures { result ≡ with_values code number count flags s.now at }
@@ -62,12 +57,12 @@ fn with_values(code: u8, number: u16, count: u8, flags: u8, s: &[u8], at: usize)
 }
 
 // What s begins with, where its first byte begins an instruction of length n.
-fn read_long(n: usize, s: &[u8]) -> Decoded
+fn read_long(n: usize, s: &[u8]) -> Result<(Instruction, usize), Refusal>
     requires { (0 < length s.now) × (n ≡ length_of (get_or s.now 0 0)) × (0 < n) }
-    ensures { decoded_answer result ≡ head_of s.now }
+    ensures { answer_of result ≡ head_of s.now }
 {
     if s.len() < n {
-        return Decoded::Refused(3);
+        return Err(Refusal::Cut);
     }
     let first = s[0];
     let code = code_of(first);
@@ -75,7 +70,7 @@ fn read_long(n: usize, s: &[u8]) -> Decoded
     let number = number_in(form, s);
     let limit = limit_in(form);
     if limit <= number as u32 {
-        return Decoded::Refused(2);
+        return Err(Refusal::Illegal);
     }
     let at = 1 + width_in(form);
     let i = with_values(
@@ -86,39 +81,38 @@ fn read_long(n: usize, s: &[u8]) -> Decoded
         s,
         at,
     );
-    Decoded::Read(i, n)
+    Ok((i, n))
 }
 
-// What s begins with; the rows are the table of shapes.
-fn read_head(rows: &[u8], s: &[u8]) -> Decoded
-    requires { (rows.now ≡ shape_rows) × (0 < length s.now) }
-    ensures { decoded_answer result ≡ head_of s.now }
+// What s begins with.
+fn read_head(shapes: Shapes, s: &[u8]) -> Result<(Instruction, usize), Refusal>
+    requires { 0 < length s.now }
+    ensures { answer_of result ≡ head_of s.now }
 {
-    match shapes::row_in(rows, s[0]) {
-        Shape::Row(n, _, _) => read_long(n, s),
-        Shape::Illegal => Decoded::Refused(2),
+    match shapes.row(s[0]) {
+        Some(row) => read_long(row.length, s),
+        None => Err(Refusal::Illegal),
     }
 }
 
-// The same as `decode`, for a caller that made the table of shapes once and lends its rows.
+// The same as `decode`, for a caller that made the table of shapes once and lends it.
 #[tactic(auto, unfolding(crate::specs::Decode::decode_of))]
-pub fn decode_by(rows: &[u8], program: &[u8], at: usize) -> Decoded
-    requires { rows.now ≡ shape_rows }
-    ensures { decoded_answer result ≡ decode_of program.now at }
+pub fn decode_by(shapes: Shapes, program: &[u8], at: usize) -> Result<(Instruction, usize), Refusal>
+    ensures { answer_of result ≡ decode_of program.now at }
 {
     if 16384 < program.len() {
-        return Decoded::Refused(20);
+        return Err(Refusal::LongProgram);
     }
     if program.len() <= at {
-        return Decoded::Refused(1);
+        return Err(Refusal::PastEnd);
     }
-    read_head(rows, &program[at..])
+    read_head(shapes, &program[at..])
 }
 
 // The instruction at an address of a program, and its length, or the refusal.
-pub fn decode(program: &[u8], at: usize) -> Decoded
-    ensures { decoded_answer result ≡ decode_of program.now at }
+pub fn decode(program: &[u8], at: usize) -> Result<(Instruction, usize), Refusal>
+    ensures { answer_of result ≡ decode_of program.now at }
 {
     let rows = shapes::rows();
-    decode_by(&rows, program, at)
+    decode_by(Shapes { rows: &rows }, program, at)
 }

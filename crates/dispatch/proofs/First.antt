@@ -3,7 +3,7 @@
 use Prim.Native.Nat.{ℕ, suc, ◌+◌, ◌-◌, ◌*◌, ◌%◌, ◌<◌, ◌≤◌}
 use native.Mathlib.Omega.{arith}
 use native.Mathlib.Nat.{add-zero}
-use mathlib.Core.Path.{◌≡◌, refl, ap, ◌∙◌}
+use mathlib.Core.Path.{◌≡◌, refl, sym, ap, ◌∙◌}
 use mathlib.Core.Bool.{Bool, true, false}
 use mathlib.Core.List.{List, [], ◌∷◌}
 use lib.ListN.{length, get_or, drop, length-drop}
@@ -20,9 +20,8 @@ use Rattle.forms.specs.declared.Form.TheVariants.{Plain, Byte, Shift, Word, Shor
 use Rattle.isa.specs.Op.{Op, Push, op_in, op_of}
 use Rattle.decoder.specs.Decode.{Reading, number_in, instruction_in, head_of, decode_of}
 use Rattle.isa.specs.declared.Instruction.{Instruction}
-use Rattle.effects.specs.Act.{done, do_of, on_reading, act_of}
-use Rattle.effects.specs.declared.Move.TheVariants.{Fault}
-use Rattle.dispatch.specs.First.{byte_of, shift_of, word_of, formed_of, first_of}
+use Rattle.effects.specs.Act.{became, do_of, on_reading, act_of}
+use Rattle.dispatch.specs.First.{on_number, numbered_of, on_shift, shift_of, formed_of, first_of}
 
 -- what s begins with, by the form of its first byte
 abbrev head_by_form : Form → List ℕ → Answer Reading
@@ -50,13 +49,13 @@ module _ (program : List ℕ) (address depth : ℕ) (mem cells : List ℕ) where
   read_as :
       (t t' u u' : Bool) (i : Instruction) (n : ℕ) (o : Op) → t ≡ t' → u ≡ u' → op_of i ≡ o
       → on_reading program address depth mem cells (pick t (refused 3) (pick u (given (i, n)) (refused 2)))
-      ≡ pick t' (done (Fault 3 0) mem cells) (pick u' (do_of program (address + n) o depth mem cells) (done (Fault 2 0) mem cells))
+      ≡ pick t' (became (refused 3) mem cells) (pick u' (do_of program (address + n) o depth mem cells) (became (refused 2) mem cells))
   read_as true t' u u' i n o e f g = rw (← e)
   read_as false t' true u' i n o e f g = rw (← e, ← f, g)
   read_as false t' false u' i n o e f g = rw (← e, ← f)
 
   -- 1
-  pub act-end : length program ≤ 16384 → length program ≤ address → act_of program address depth mem cells ≡ done (Fault 1 0) mem cells
+  pub act-end : length program ≤ 16384 → length program ≤ address → act_of program address depth mem cells ≡ became (refused 1) mem cells
   unfolding act_of decode_of
   act-end s h = rw (le-ltb 16384 (length program) s, le-leb (length program) address h)
 
@@ -86,6 +85,38 @@ module _ (program : List ℕ) (address depth : ℕ) (mem cells : List ℕ) where
 
   number-two : number_at 2 rest 1 ≡ second + 256 * third
   number-two = let q = second-byte in let r = third-byte in omega arith
+
+  -- an operation with a number, by whether that is cut
+  numbered-as :
+      (w x next : ℕ) (o : ℕ → Op) → number_at w program (address + 1) ≡ x → address + 1 + w ≡ next
+      → numbered_of program address depth mem cells w o ≡ pick (ltb (length program) next) (became (refused 3) mem cells) (do_of program next (o x) depth mem cells)
+  unfolding numbered_of
+  numbered-as w x next o e f = rw (e, ← f) (by (ltb (length program) (address + 1 + w)))
+    where
+      by : (t : Bool)
+          → on_number program address depth mem cells w o (pick t (refused 3) (given x)) ≡ pick t (became (refused 3) mem cells) (do_of program (address + 1 + w) (o x) depth mem cells)
+      by true = refl
+      by false = refl
+
+  -- a shift, by whether its number is cut, and then whether it is 0 to 15
+  shift-as :
+      (x next : ℕ) (o : ℕ → Op) → number_at 1 program (address + 1) ≡ x → address + 1 + 1 ≡ next
+      → shift_of program address depth mem cells o
+      ≡ pick (ltb (length program) next) (became (refused 3) mem cells) (pick (ltb x 16) (do_of program next (o x) depth mem cells) (became (refused 2) mem cells))
+  unfolding shift_of
+  shift-as x next o e f = rw (e, ← f) (by (ltb (length program) (address + 1 + 1)))
+    where
+      by : (t : Bool)
+          → on_shift program address depth mem cells o (pick t (refused 3) (given x))
+          ≡ pick t (became (refused 3) mem cells) (pick (ltb x 16) (do_of program (address + 1 + 1) (o x) depth mem cells) (became (refused 2) mem cells))
+      by true = refl
+      by false = refl
+
+  byte-after : number_at 1 program (address + 1) ≡ second
+  byte-after = omega arith
+
+  word-after : number_at 2 program (address + 1) ≡ second + 256 * third
+  word-after = omega arith
 
   -- what the rest begins with, by the form of its first byte
   head_in : (f : Form) → form_of (code_of first) ≡ f → head_of rest ≡ head_by_form f rest
@@ -119,11 +150,17 @@ module _ (program : List ℕ) (address depth : ℕ) (mem cells : List ℕ) where
     formed :
         (f : Form) → form_of (code_of first) ≡ f
         → on_reading program address depth mem cells (head_of rest) ≡ formed_of program address depth mem cells f first (λ x. op_in (code_of first) x)
-    unfolding ones byte_of shift_of word_of
+    unfolding ones
     formed Plain e = rw (head_in Plain e) (read_as _ false true true (instruction_in Plain rest) 1 _ whole refl (op-as Plain 0 e refl refl))
-    formed Byte e = rw (head_in Byte e) (read_as _ _ _ true (instruction_in Byte rest) 2 _ (cut 2) good-one (op-as Byte second e refl number-one))
-    formed Shift e = rw (head_in Shift e) (read_as _ _ _ _ (instruction_in Shift rest) 2 _ (cut 2) (ap (λ (n : ℕ). ltb n 16) number-one) (op-as Shift second e refl number-one))
-    formed Word e = rw (head_in Word e) (read_as _ _ _ true (instruction_in Word rest) 3 _ (cut 3) good-two (op-as Word _ e refl number-two))
+    formed Byte e =
+        rw (head_in Byte e) (read_as _ _ _ true (instruction_in Byte rest) 2 _ (cut 2) good-one (op-as Byte second e refl number-one))
+        ∙ sym (numbered-as 1 second (address + 2) (λ x. op_in (code_of first) x) byte-after (omega arith))
+    formed Shift e =
+        rw (head_in Shift e) (read_as _ _ _ _ (instruction_in Shift rest) 2 _ (cut 2) (ap (λ (n : ℕ). ltb n 16) number-one) (op-as Shift second e refl number-one))
+        ∙ sym (shift-as second (address + 2) (λ x. op_in (code_of first) x) byte-after (omega arith))
+    formed Word e =
+        rw (head_in Word e) (read_as _ _ _ true (instruction_in Word rest) 3 _ (cut 3) good-two (op-as Word _ e refl number-two))
+        ∙ sym (numbered-as 2 (second + 256 * third) (address + 3) (λ x. op_in (code_of first) x) word-after (omega arith))
     formed Short e = rw (head_in Short e) (read_as _ false _ true (instruction_in Short rest) 1 _ whole good-six (op-as Short _ e refl (ap (λ (n : ℕ). n % 64) first_byte)))
     formed Values e = refl
     formed Illegal e = rw (head_in Illegal e)
@@ -132,27 +169,3 @@ module _ (program : List ℕ) (address depth : ℕ) (mem cells : List ℕ) where
   pub act-first : length program ≤ 16384 → address < length program → Bytes program → act_of program address depth mem cells ≡ first_of program address depth mem cells first
   unfolding act_of decode_of first_of
   act-first s h w = rw (le-ltb 16384 (length program) s, lt-leb (length program) address h) (formed h w (form_of (code_of first)) refl)
-
-module _ (program : List ℕ) (address depth : ℕ) (mem cells : List ℕ) (b : ℕ) where
-  -- 5B to 7F
-  pub first-illegal : 0x5B ≤ b → b < 0x80 → first_of program address depth mem cells b ≡ done (Fault 2 0) mem cells
-  unfolding first_of form_of code_of
-  first-illegal h l = simp (
-    lt-ltb b 0x80 l,
-    lt-leb b 0x24 (omega arith),
-    lt-leb b 0x30 (omega arith),
-    lt-leb b 0x32 (omega arith),
-    lt-leb b 0x40 (omega arith),
-    lt-leb b 0x5A h,
-    ne_eqb b 0x80 (omega arith),
-    ne_eqb b 0xC0 (omega arith),
-  )
-
-  -- 80 to BF
-  pub first_short : 0x80 ≤ b → b < 0xC0 → first_of program address depth mem cells b ≡ do_of program (address + 1) (Push (b % 64 ∷ [])) depth mem cells
-  unfolding first_of form_of code_of op_in
-  first_short h l = rw (le-ltb b 0x80 h, lt-ltb b 0xC0 l)
-
--- one key passed
-pub up : (k b : ℕ) → k ≤ b → (b ≡ k → ⊥) → suc k ≤ b
-up k b h n = omega arith

@@ -1,44 +1,46 @@
 -- One instruction told by its first byte: the number that its form has in the code, and then its operation.
-use Rattle.std.specs.Prelude.{ℕ, ◌+◌, ◌*◌, ◌%◌, ◌≤◌, ◌<◌, ◌≡◌, List, length, get_or, drop, ltb}
+use Rattle.basis.specs.Answer.{Answer, given, refused}
+use Rattle.std.specs.Prelude.{ℕ, ◌+◌, ◌%◌, ◌≤◌, ◌<◌, ◌≡◌, List, length, get_or, drop, ltb}
 use Rattle.basis.specs.Pick.{pick}
+use Rattle.basis.specs.Number.{number_at}
 use Rattle.forms.specs.Form.{form_of, code_of}
 use Rattle.forms.specs.declared.Form.{Form}
 use Rattle.forms.specs.declared.Form.TheVariants.{Plain, Byte, Shift, Word, Short, Values, Illegal}
 use Rattle.isa.specs.Op.{Op, op_in}
 use Rattle.decoder.specs.Decode.{head_of}
-use Rattle.effects.specs.Act.{Done, done, do_of, on_reading}
-use Rattle.effects.specs.declared.Move.TheVariants.{Fault}
+use Rattle.effects.specs.Act.{became, Done, do_of, on_reading}
+
+-- the number in so many bytes after the first byte, which stands at address, "low byte first": 3
+abbrev pub number_after : ℕ → List ℕ → ℕ → Answer ℕ
+number_after width program address = pick (ltb (length program) (address + 1 + width)) (refused 3) (given (number_at width program (address + 1)))
 
 -- the instruction stands at address
 module _ (program : List ℕ) (address depth : ℕ) (mem cells : List ℕ) where
-  -- an operation with the byte after the first for its number: 3
-  unfoldable pub byte_of : (ℕ → Op) → Done
-  byte_of o =
-      pick (ltb (length program) (address + 2)) (done (Fault 3 0) mem cells)
-      (do_of program (address + 2) (o (get_or program (address + 1) 0)) depth mem cells)
+  abbrev pub on_number : ℕ → (ℕ → Op) → Answer ℕ → Done
+  on_number width o (refused n) = became (refused n) mem cells
+  on_number width o (given x) = do_of program (address + 1 + width) (o x) depth mem cells
+
+  -- an operation with the number of so many bytes after the first
+  unfoldable pub numbered_of : ℕ → (ℕ → Op) → Done
+  numbered_of width o = on_number width o (number_after width program address)
+
+  abbrev pub on_shift : (ℕ → Op) → Answer ℕ → Done
+  on_shift o (refused n) = became (refused n) mem cells
+  on_shift o (given x) = pick (ltb x 16) (do_of program (address + 1 + 1) (o x) depth mem cells) (became (refused 2) mem cells)
 
   -- the same for a shift, "second byte 0 to 15": 3, then 2
   unfoldable pub shift_of : (ℕ → Op) → Done
-  shift_of o =
-      pick (ltb (length program) (address + 2)) (done (Fault 3 0) mem cells)
-      (pick (ltb (get_or program (address + 1) 0) 16) (do_of program (address + 2) (o (get_or program (address + 1) 0)) depth mem cells)
-      (done (Fault 2 0) mem cells))
-
-  -- an operation with the two bytes after the first for its number, "low byte first": 3
-  unfoldable pub word_of : (ℕ → Op) → Done
-  word_of o =
-      pick (ltb (length program) (address + 3)) (done (Fault 3 0) mem cells)
-      (do_of program (address + 3) (o (get_or program (address + 1) 0 + 256 * get_or program (address + 1 + 1) 0)) depth mem cells)
+  shift_of o = on_shift o (number_after 1 program address)
 
   -- by the form of the first byte b; "80 to BF push the low six bits", and C0 to FF are left to the decoder
   abbrev pub formed_of : Form → ℕ → (ℕ → Op) → Done
   formed_of Plain b o = do_of program (address + 1) (o 0) depth mem cells
-  formed_of Byte b o = byte_of o
+  formed_of Byte b o = numbered_of 1 o
   formed_of Shift b o = shift_of o
-  formed_of Word b o = word_of o
+  formed_of Word b o = numbered_of 2 o
   formed_of Short b o = do_of program (address + 1) (o (b % 64)) depth mem cells
   formed_of Values b o = on_reading program address depth mem cells (head_of (drop address program))
-  formed_of Illegal b o = done (Fault 2 0) mem cells
+  formed_of Illegal b o = became (refused 2) mem cells
 
   -- by the first byte
   unfoldable pub first_of : ℕ → Done

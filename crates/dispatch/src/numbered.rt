@@ -1,345 +1,205 @@
 // Operations whose number stands in the code, in one byte or in two: the number is read, and the operation done with it.
 // Written by tools/dispatch.
-ghost use Rattle.std.specs.Prelude.{◌≡◌, List, ℕ, ◌+◌, ◌*◌, ◌<◌, ◌≤◌, length, get_or};
+// Stays: ten functions of one shape: one over an `impl FnOnce(u16, usize)` is no plainer, each of its 54 arms would have a closure's contract to meet.
+ghost use Rattle.std.specs.Prelude.{◌≡◌, List, ℕ, ◌<◌, ◌≤◌, length};
+ghost use Rattle.basis.specs.Refusal.{answer_of};
 ghost use Rattle.isa.specs.Op.{TwoNumber, Load, Store, Given};
 ghost use Rattle.isa.specs.declared.Route.TheVariants.{Call, Jump, System, Extension};
 ghost use Rattle.flow.specs.Branch.{branch_at};
 ghost use Rattle.effects.specs.Act.{done};
-ghost use Rattle.dispatch.specs.First.{byte_of, shift_of, word_of, Placed};
+ghost use Rattle.dispatch.specs.First.{number_after, numbered_of, shift_of, Placed};
 
 use alu::Pair;
+use basis::Refusal;
 use effects::Move;
 
-// The byte after the first.
-fn byte_after(program: &[u8], address: usize) -> u16
-    requires { address + 2 ≤ length program.now }
-    ensures { result ≡ get_or program.now (address + 1) 0 }
+// The number in the `WIDTH` bytes after the first.
+fn number_after<const WIDTH: usize>(program: &[u8], address: usize) -> Result<u16, Refusal>
+    requires { (address < length program.now) × (WIDTH ≤ 2) }
+    ensures { answer_of result ≡ number_after WIDTH program.now address }
 {
     let at = address + 1;
-    program[at] as u16
-}
-
-// The two bytes after the first, low byte first.
-fn word_after(program: &[u8], address: usize) -> u16
-    requires { address + 3 ≤ length program.now }
-    ensures { result ≡ get_or program.now (address + 1) 0 + 256 * get_or program.now (address + 1 + 1) 0 }
-{
-    let low = address + 1;
-    let high = low + 1;
-    program[low] as u16 + 256 * (program[high] as u16)
+    if program.len() < at + WIDTH {
+        return Err(Refusal::Cut);
+    }
+    Ok(basis::number_at(WIDTH, program, at))
 }
 
 // An operation on a and the number.
-pub fn two_byte(pair: Pair, program: &[u8], address: usize, depth: usize, cells: &mut [u16]) -> Move
-    requires { Placed program.now address depth cells.old }
-    ensures { (mem : List ℕ) → done result mem cells.new ≡ byte_of program.now address depth mem cells.old (λ x. TwoNumber pair x) }
-{
-    if program.len() < address + 2 {
-        return Move::Fault(3, 0);
-    }
-    let x = byte_after(program, address);
-    stack::two_number(pair, x, address + 2, depth, cells)
-}
-
-// An operation on a and the number.
-pub fn two_word(pair: Pair, program: &[u8], address: usize, depth: usize, cells: &mut [u16]) -> Move
-    requires { Placed program.now address depth cells.old }
-    ensures { (mem : List ℕ) → done result mem cells.new ≡ word_of program.now address depth mem cells.old (λ x. TwoNumber pair x) }
-{
-    if program.len() < address + 3 {
-        return Move::Fault(3, 0);
-    }
-    let x = word_after(program, address);
-    stack::two_number(pair, x, address + 3, depth, cells)
-}
-
-// A load at the number.
-pub fn load_number_byte(
-    width: usize,
-    program: &[u8],
-    address: usize,
-    depth: usize,
-    data: &[u8],
-    cells: &mut [u16],
-) -> Move
-    requires { (Placed program.now address depth cells.old) × ((1 ≤ width) × (width ≤ 2)) }
-    ensures { done result «data».now cells.new ≡ byte_of program.now address depth «data».now cells.old (λ x. Load width 0 x) }
-{
-    if program.len() < address + 2 {
-        return Move::Fault(3, 0);
-    }
-    let x = byte_after(program, address);
-    loads::load_number(width, x, address + 2, depth, data, cells)
-}
-
-// A load at the number.
-pub fn load_number_word(
-    width: usize,
-    program: &[u8],
-    address: usize,
-    depth: usize,
-    data: &[u8],
-    cells: &mut [u16],
-) -> Move
-    requires { (Placed program.now address depth cells.old) × ((1 ≤ width) × (width ≤ 2)) }
-    ensures { done result «data».now cells.new ≡ word_of program.now address depth «data».now cells.old (λ x. Load width 0 x) }
-{
-    if program.len() < address + 3 {
-        return Move::Fault(3, 0);
-    }
-    let x = word_after(program, address);
-    loads::load_number(width, x, address + 3, depth, data, cells)
-}
-
-// A load at a and the number.
-pub fn load_offset_byte(
-    width: usize,
-    program: &[u8],
-    address: usize,
-    depth: usize,
-    data: &[u8],
-    cells: &mut [u16],
-) -> Move
-    requires { (Placed program.now address depth cells.old) × ((1 ≤ width) × (width ≤ 2)) }
-    ensures { done result «data».now cells.new ≡ byte_of program.now address depth «data».now cells.old (λ x. Load width 1 x) }
-{
-    if program.len() < address + 2 {
-        return Move::Fault(3, 0);
-    }
-    let x = byte_after(program, address);
-    loads::load_offset(width, x, address + 2, depth, data, cells)
-}
-
-// A load at a and the number.
-pub fn load_offset_word(
-    width: usize,
-    program: &[u8],
-    address: usize,
-    depth: usize,
-    data: &[u8],
-    cells: &mut [u16],
-) -> Move
-    requires { (Placed program.now address depth cells.old) × ((1 ≤ width) × (width ≤ 2)) }
-    ensures { done result «data».now cells.new ≡ word_of program.now address depth «data».now cells.old (λ x. Load width 1 x) }
-{
-    if program.len() < address + 3 {
-        return Move::Fault(3, 0);
-    }
-    let x = word_after(program, address);
-    loads::load_offset(width, x, address + 3, depth, data, cells)
-}
-
-// A store at the number.
-pub fn store_number_byte(
-    width: usize,
-    program: &[u8],
-    address: usize,
-    depth: usize,
-    data: &mut [u8],
-    cells: &mut [u16],
-) -> Move
-    requires { (Placed program.now address depth cells.old) × ((1 ≤ width) × (width ≤ 2)) }
-    ensures { done result «data».new cells.new ≡ byte_of program.now address depth «data».old cells.old (λ x. Store width 0 x) }
-{
-    if program.len() < address + 2 {
-        return Move::Fault(3, 0);
-    }
-    let x = byte_after(program, address);
-    stores::store_number(width, x, address + 2, depth, data, cells)
-}
-
-// A store at the number.
-pub fn store_number_word(
-    width: usize,
-    program: &[u8],
-    address: usize,
-    depth: usize,
-    data: &mut [u8],
-    cells: &mut [u16],
-) -> Move
-    requires { (Placed program.now address depth cells.old) × ((1 ≤ width) × (width ≤ 2)) }
-    ensures { done result «data».new cells.new ≡ word_of program.now address depth «data».old cells.old (λ x. Store width 0 x) }
-{
-    if program.len() < address + 3 {
-        return Move::Fault(3, 0);
-    }
-    let x = word_after(program, address);
-    stores::store_number(width, x, address + 3, depth, data, cells)
-}
-
-// A store at a and the number.
-pub fn store_offset_byte(
-    width: usize,
-    program: &[u8],
-    address: usize,
-    depth: usize,
-    data: &mut [u8],
-    cells: &mut [u16],
-) -> Move
-    requires { (Placed program.now address depth cells.old) × ((1 ≤ width) × (width ≤ 2)) }
-    ensures { done result «data».new cells.new ≡ byte_of program.now address depth «data».old cells.old (λ x. Store width 1 x) }
-{
-    if program.len() < address + 2 {
-        return Move::Fault(3, 0);
-    }
-    let x = byte_after(program, address);
-    stores::store_offset(width, x, address + 2, depth, data, cells)
-}
-
-// A store at a and the number.
-pub fn store_offset_word(
-    width: usize,
-    program: &[u8],
-    address: usize,
-    depth: usize,
-    data: &mut [u8],
-    cells: &mut [u16],
-) -> Move
-    requires { (Placed program.now address depth cells.old) × ((1 ≤ width) × (width ≤ 2)) }
-    ensures { done result «data».new cells.new ≡ word_of program.now address depth «data».old cells.old (λ x. Store width 1 x) }
-{
-    if program.len() < address + 3 {
-        return Move::Fault(3, 0);
-    }
-    let x = word_after(program, address);
-    stores::store_offset(width, x, address + 3, depth, data, cells)
-}
-
-// A call of the number.
-pub fn call_byte(program: &[u8], address: usize, depth: usize, cells: &mut [u16]) -> Move
-    requires { Placed program.now address depth cells.old }
-    ensures { (mem : List ℕ) → done result mem cells.new ≡ byte_of program.now address depth mem cells.old (λ x. Given Call x) }
-{
-    if program.len() < address + 2 {
-        return Move::Fault(3, 0);
-    }
-    let x = byte_after(program, address);
-    calls::call_to(x, address + 2, depth, cells)
-}
-
-// A call of the number.
-pub fn call_word(program: &[u8], address: usize, depth: usize, cells: &mut [u16]) -> Move
-    requires { Placed program.now address depth cells.old }
-    ensures { (mem : List ℕ) → done result mem cells.new ≡ word_of program.now address depth mem cells.old (λ x. Given Call x) }
-{
-    if program.len() < address + 3 {
-        return Move::Fault(3, 0);
-    }
-    let x = word_after(program, address);
-    calls::call_to(x, address + 3, depth, cells)
-}
-
-// A jump to the number.
-pub fn jump_byte(program: &[u8], address: usize, depth: usize, cells: &[u16]) -> Move
-    requires { Placed program.now address depth cells.now }
-    ensures { (mem : List ℕ) → done result mem cells.now ≡ byte_of program.now address depth mem cells.now (λ x. Given Jump x) }
-{
-    if program.len() < address + 2 {
-        return Move::Fault(3, 0);
-    }
-    let x = byte_after(program, address);
-    flow::jump_to(x, depth)
-}
-
-// A jump to the number.
-pub fn jump_word(program: &[u8], address: usize, depth: usize, cells: &[u16]) -> Move
-    requires { Placed program.now address depth cells.now }
-    ensures { (mem : List ℕ) → done result mem cells.now ≡ word_of program.now address depth mem cells.now (λ x. Given Jump x) }
-{
-    if program.len() < address + 3 {
-        return Move::Fault(3, 0);
-    }
-    let x = word_after(program, address);
-    flow::jump_to(x, depth)
-}
-
-// A branch to the number.
-pub fn branch_byte(want: bool, program: &[u8], address: usize, depth: usize, cells: &[u16]) -> Move
-    requires { Placed program.now address depth cells.now }
-    ensures { (mem : List ℕ) → done result mem cells.now ≡ byte_of program.now address depth mem cells.now (λ x. Given (branch_at want) x) }
-{
-    if program.len() < address + 2 {
-        return Move::Fault(3, 0);
-    }
-    let x = byte_after(program, address);
-    flow::branch_to(want, x, address + 2, depth, cells)
-}
-
-// A branch to the number.
-pub fn branch_word(want: bool, program: &[u8], address: usize, depth: usize, cells: &[u16]) -> Move
-    requires { Placed program.now address depth cells.now }
-    ensures { (mem : List ℕ) → done result mem cells.now ≡ word_of program.now address depth mem cells.now (λ x. Given (branch_at want) x) }
-{
-    if program.len() < address + 3 {
-        return Move::Fault(3, 0);
-    }
-    let x = word_after(program, address);
-    flow::branch_to(want, x, address + 3, depth, cells)
-}
-
-// The system function of the number.
-pub fn system_byte(program: &[u8], address: usize, depth: usize, cells: &[u16]) -> Move
-    requires { Placed program.now address depth cells.now }
-    ensures { (mem : List ℕ) → done result mem cells.now ≡ byte_of program.now address depth mem cells.now (λ x. Given System x) }
-{
-    if program.len() < address + 2 {
-        return Move::Fault(3, 0);
-    }
-    let x = byte_after(program, address);
-    calls::system_of(x, depth)
-}
-
-// The system function of the number.
-pub fn system_word(program: &[u8], address: usize, depth: usize, cells: &[u16]) -> Move
-    requires { Placed program.now address depth cells.now }
-    ensures { (mem : List ℕ) → done result mem cells.now ≡ word_of program.now address depth mem cells.now (λ x. Given System x) }
-{
-    if program.len() < address + 3 {
-        return Move::Fault(3, 0);
-    }
-    let x = word_after(program, address);
-    calls::system_of(x, depth)
-}
-
-// The extension function of the number.
-pub fn extension_byte(program: &[u8], address: usize, depth: usize, cells: &[u16]) -> Move
-    requires { Placed program.now address depth cells.now }
-    ensures { (mem : List ℕ) → done result mem cells.now ≡ byte_of program.now address depth mem cells.now (λ x. Given Extension x) }
-{
-    if program.len() < address + 2 {
-        return Move::Fault(3, 0);
-    }
-    calls::extension_of(depth)
-}
-
-// The extension function of the number.
-pub fn extension_word(program: &[u8], address: usize, depth: usize, cells: &[u16]) -> Move
-    requires { Placed program.now address depth cells.now }
-    ensures { (mem : List ℕ) → done result mem cells.now ≡ word_of program.now address depth mem cells.now (λ x. Given Extension x) }
-{
-    if program.len() < address + 3 {
-        return Move::Fault(3, 0);
-    }
-    calls::extension_of(depth)
-}
-
-// A shift of a by the number, which is 0 to 15.
-pub fn shift_byte(
+#[tactic(auto, unfolding(crate::specs::First::numbered_of))]
+pub fn two_number<const WIDTH: usize>(
     pair: Pair,
     program: &[u8],
     address: usize,
     depth: usize,
     cells: &mut [u16],
-) -> Move
+) -> Result<Move, Refusal>
+    requires { (Placed program.now address depth cells.old) × (WIDTH ≤ 2) }
+    ensures { (mem : List ℕ) → done result mem cells.new ≡ numbered_of program.now address depth mem cells.old WIDTH (λ x. TwoNumber pair x) }
+{
+    let x = number_after::<WIDTH>(program, address)?;
+    stack::two_number(pair, x, address + 1 + WIDTH, depth, cells)
+}
+
+// A load at the number.
+#[tactic(auto, unfolding(crate::specs::First::numbered_of))]
+pub fn load_number<const WIDTH: usize>(
+    width: usize,
+    program: &[u8],
+    address: usize,
+    depth: usize,
+    data: &[u8],
+    cells: &mut [u16],
+) -> Result<Move, Refusal>
+    requires { (Placed program.now address depth cells.old) × (WIDTH ≤ 2) × ((1 ≤ width) × (width ≤ 2)) }
+    ensures { done result «data».now cells.new ≡ numbered_of program.now address depth «data».now cells.old WIDTH (λ x. Load width 0 x) }
+{
+    let x = number_after::<WIDTH>(program, address)?;
+    loads::load_number(width, x, address + 1 + WIDTH, depth, data, cells)
+}
+
+// A load at a and the number.
+#[tactic(auto, unfolding(crate::specs::First::numbered_of))]
+pub fn load_offset<const WIDTH: usize>(
+    width: usize,
+    program: &[u8],
+    address: usize,
+    depth: usize,
+    data: &[u8],
+    cells: &mut [u16],
+) -> Result<Move, Refusal>
+    requires { (Placed program.now address depth cells.old) × (WIDTH ≤ 2) × ((1 ≤ width) × (width ≤ 2)) }
+    ensures { done result «data».now cells.new ≡ numbered_of program.now address depth «data».now cells.old WIDTH (λ x. Load width 1 x) }
+{
+    let x = number_after::<WIDTH>(program, address)?;
+    loads::load_offset(width, x, address + 1 + WIDTH, depth, data, cells)
+}
+
+// A store at the number.
+#[tactic(auto, unfolding(crate::specs::First::numbered_of))]
+pub fn store_number<const WIDTH: usize>(
+    width: usize,
+    program: &[u8],
+    address: usize,
+    depth: usize,
+    data: &mut [u8],
+    cells: &mut [u16],
+) -> Result<Move, Refusal>
+    requires { (Placed program.now address depth cells.old) × (WIDTH ≤ 2) × ((1 ≤ width) × (width ≤ 2)) }
+    ensures { done result «data».new cells.new ≡ numbered_of program.now address depth «data».old cells.old WIDTH (λ x. Store width 0 x) }
+{
+    let x = number_after::<WIDTH>(program, address)?;
+    stores::store_number(width, x, address + 1 + WIDTH, depth, data, cells)
+}
+
+// A store at a and the number.
+#[tactic(auto, unfolding(crate::specs::First::numbered_of))]
+pub fn store_offset<const WIDTH: usize>(
+    width: usize,
+    program: &[u8],
+    address: usize,
+    depth: usize,
+    data: &mut [u8],
+    cells: &mut [u16],
+) -> Result<Move, Refusal>
+    requires { (Placed program.now address depth cells.old) × (WIDTH ≤ 2) × ((1 ≤ width) × (width ≤ 2)) }
+    ensures { done result «data».new cells.new ≡ numbered_of program.now address depth «data».old cells.old WIDTH (λ x. Store width 1 x) }
+{
+    let x = number_after::<WIDTH>(program, address)?;
+    stores::store_offset(width, x, address + 1 + WIDTH, depth, data, cells)
+}
+
+// A call of the number.
+#[tactic(auto, unfolding(crate::specs::First::numbered_of))]
+pub fn call_to<const WIDTH: usize>(
+    program: &[u8],
+    address: usize,
+    depth: usize,
+    cells: &mut [u16],
+) -> Result<Move, Refusal>
+    requires { (Placed program.now address depth cells.old) × (WIDTH ≤ 2) }
+    ensures { (mem : List ℕ) → done result mem cells.new ≡ numbered_of program.now address depth mem cells.old WIDTH (λ x. Given Call x) }
+{
+    let x = number_after::<WIDTH>(program, address)?;
+    calls::call_to(x, address + 1 + WIDTH, depth, cells)
+}
+
+// A jump to the number.
+#[tactic(auto, unfolding(crate::specs::First::numbered_of))]
+pub fn jump_to<const WIDTH: usize>(
+    program: &[u8],
+    address: usize,
+    depth: usize,
+    cells: &[u16],
+) -> Result<Move, Refusal>
+    requires { (Placed program.now address depth cells.now) × (WIDTH ≤ 2) }
+    ensures { (mem : List ℕ) → done result mem cells.now ≡ numbered_of program.now address depth mem cells.now WIDTH (λ x. Given Jump x) }
+{
+    let x = number_after::<WIDTH>(program, address)?;
+    Ok(flow::jump_to(x, depth))
+}
+
+// A branch to the number.
+#[tactic(auto, unfolding(crate::specs::First::numbered_of))]
+pub fn branch_to<const WIDTH: usize>(
+    want: bool,
+    program: &[u8],
+    address: usize,
+    depth: usize,
+    cells: &[u16],
+) -> Result<Move, Refusal>
+    requires { (Placed program.now address depth cells.now) × (WIDTH ≤ 2) }
+    ensures { (mem : List ℕ) → done result mem cells.now ≡ numbered_of program.now address depth mem cells.now WIDTH (λ x. Given (branch_at want) x) }
+{
+    let x = number_after::<WIDTH>(program, address)?;
+    flow::branch_to(want, x, address + 1 + WIDTH, depth, cells)
+}
+
+// The system function of the number.
+#[tactic(auto, unfolding(crate::specs::First::numbered_of))]
+pub fn system_of<const WIDTH: usize>(
+    program: &[u8],
+    address: usize,
+    depth: usize,
+    cells: &[u16],
+) -> Result<Move, Refusal>
+    requires { (Placed program.now address depth cells.now) × (WIDTH ≤ 2) }
+    ensures { (mem : List ℕ) → done result mem cells.now ≡ numbered_of program.now address depth mem cells.now WIDTH (λ x. Given System x) }
+{
+    let x = number_after::<WIDTH>(program, address)?;
+    calls::system_of(x, depth)
+}
+
+// The extension function of the number.
+#[tactic(auto, unfolding(crate::specs::First::numbered_of))]
+pub fn extension_of<const WIDTH: usize>(
+    program: &[u8],
+    address: usize,
+    depth: usize,
+    cells: &[u16],
+) -> Result<Move, Refusal>
+    requires { (Placed program.now address depth cells.now) × (WIDTH ≤ 2) }
+    ensures { (mem : List ℕ) → done result mem cells.now ≡ numbered_of program.now address depth mem cells.now WIDTH (λ x. Given Extension x) }
+{
+    number_after::<WIDTH>(program, address)?;
+    calls::extension_of(depth)
+}
+
+// A shift of a by the number, which is 0 to 15.
+#[tactic(auto, unfolding(crate::specs::First::shift_of))]
+pub fn shift(
+    pair: Pair,
+    program: &[u8],
+    address: usize,
+    depth: usize,
+    cells: &mut [u16],
+) -> Result<Move, Refusal>
     requires { Placed program.now address depth cells.old }
     ensures { (mem : List ℕ) → done result mem cells.new ≡ shift_of program.now address depth mem cells.old (λ x. TwoNumber pair x) }
 {
-    if program.len() < address + 2 {
-        return Move::Fault(3, 0);
-    }
-    let x = byte_after(program, address);
+    let x = number_after::<1>(program, address)?;
     if 16 <= x {
-        return Move::Fault(2, 0);
+        return Err(Refusal::Illegal);
     }
-    stack::two_number(pair, x, address + 2, depth, cells)
+    stack::two_number(pair, x, address + 1 + 1, depth, cells)
 }

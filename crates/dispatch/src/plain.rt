@@ -5,8 +5,10 @@ ghost use Rattle.dispatch.specs.First.{first_of, Begun};
 
 use crate::bytes::bytes;
 use alu::{Pair, Single};
+use basis::Refusal;
 use effects::Move;
 
+#[tactic(auto, unfolding(crate::specs::First::first_of, forms::specs::Form::form_of, forms::specs::Form::code_of, isa::specs::Op::op_in))]
 pub fn plain(
     first: u8,
     program: &[u8],
@@ -14,12 +16,12 @@ pub fn plain(
     depth: usize,
     data: &mut [u8],
     cells: &mut [u16],
-) -> Move
+) -> Result<Move, Refusal>
     requires { Begun program.now address depth cells.old first 0 }
     ensures { done result «data».new cells.new ≡ first_of program.now address depth «data».old cells.old first }
 {
     match first {
-        0x00 => flow::halt(depth),
+        0x00 => Ok(flow::halt(depth)),
         0x01 => stack::discard(address + 1, depth),
         0x02 => copies::copy_data(address + 1, depth, data, cells),
         0x03 => copies::copy_program(address + 1, depth, program, data, cells),

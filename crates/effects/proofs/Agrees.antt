@@ -22,9 +22,8 @@ use Rattle.isa.specs.declared.Instruction.{Instruction}
 use Rattle.isa.specs.declared.Route.{Route}
 use Rattle.effects.specs.Memory.{operand_of, pushed, good, copied}
 use Rattle.effects.specs.Effect.{Effect, fails, leaves, place_of, copied_from, routed, effect_of}
-use Rattle.effects.specs.Act.{done, on_effect, on_stack, do_of, act_of}
+use Rattle.effects.specs.Act.{became, on_effect, on_stack, do_of, act_of}
 use Rattle.effects.specs.Reach.{writes_from, writes_count, reads_from, reads_count, Among, Agree, Alike}
-use Rattle.effects.specs.declared.Move.TheVariants.{Fault}
 use Rattle.effects.proofs.Frame.{sets-out}
 use Rattle.isa.specs.Op as op
 use Rattle.isa.specs.declared.Route.TheVariants as route
@@ -148,12 +147,12 @@ module _ (program mem mem' : List ℕ) (arg : ℕ → ℕ) (next : ℕ) where
   same_effect op.NoOp g = still [] [] refl
 
 module _ (program : List ℕ) (next : ℕ) (o : Op) (depth : ℕ) (mem mem' cells : List ℕ) where
-  alike-fault : (n : ℕ) → Alike o depth cells (done (Fault n 0) mem cells) (done (Fault n 0) mem' cells)
+  alike-fault : (n : ℕ) → Alike o depth cells (became (refused n) mem cells) (became (refused n) mem' cells)
   alike-fault n = record { same_move = refl; same_cells = refl; same_bytes = λ f q h. absurd (false-true (sym f)) }
 
   alike-effect : (e : ℕ) (x y : Effect) → Same (writes_from (operand_of cells depth) o) (writes_count (operand_of cells depth) o) x y
       → Alike o depth cells (on_effect program next o depth mem cells e x) (on_effect program next o depth mem' cells e y)
-  alike-effect e (fails j) (fails k) h = record { same_move = ap (λ (n : ℕ). Fault n 0) h; same_cells = refl; same_bytes = λ f q i. absurd (false-true (sym f)) }
+  alike-effect e (fails j) (fails k) h = record { same_move = ap (λ (n : ℕ). refused n) h; same_cells = refl; same_bytes = λ f q i. absurd (false-true (sym f)) }
   alike-effect e (fails j) (leaves m us) h = absurd h
   alike-effect e (leaves m vs) (fails k) h = absurd h
   alike-effect e (leaves m vs) (leaves m' us) h = record { same_move = refl; same_cells = ap (λ (ws : List ℕ). pushed cells (depth - taken_of o) ws) h.0; same_bytes = λ f q i. h.1 q i }

@@ -10,17 +10,16 @@ use lib.Dec.{eqb}
 use Rattle.basis.specs.Pick.{pick}
 use Rattle.basis.specs.Answer.{Answer, given, refused}
 use Rattle.isa.specs.Op.{Op, op_of}
-use Rattle.isa.specs.Shape.{taken_of, pushed_of, way_of, depth_after}
+use Rattle.isa.specs.Shape.{taken_of, pushed_of, depth_after}
 use Rattle.decoder.specs.Decode.{Reading, decode_of}
 use Rattle.isa.specs.declared.Route.{Route}
 use Rattle.isa.proofs.Numbers.{stack-number}
 use Rattle.decoder.proofs.Numbers.{decode-number}
 use Rattle.effects.specs.Memory.{operand_of, good}
-use Rattle.effects.specs.Effect.{Effect, fails, leaves, place_of, routed, effect_of, Going, stays, goes, going_of}
-use Rattle.effects.specs.Act.{move_of, on_effect, on_stack, do_of, on_reading, act_of}
+use Rattle.effects.specs.Effect.{Effect, fails, leaves, place_of, routed, effect_of}
+use Rattle.effects.specs.Act.{on_effect, on_stack, do_of, on_reading, act_of}
 use Rattle.effects.specs.Reach.{is_fault}
 use Rattle.effects.specs.declared.Move.{Move}
-use Rattle.effects.specs.declared.Move.TheVariants.{To, Halt, Fault}
 use Rattle.effects.proofs.Frame.{framed}
 use Rattle.isa.specs.Op as op
 use Rattle.isa.specs.declared.Route.TheVariants as route
@@ -61,20 +60,15 @@ module _ (program mem : List ℕ) (arg : ℕ → ℕ) (next : ℕ) where
   effect-by (op.Push vs) = tt
   effect-by op.NoOp = tt
 
--- a move that is a fault has a number from 1 to 8
-abbrev pub FaultsBy : Move → Type 0
-FaultsBy (To address depth) = Unit {0}
-FaultsBy (Halt n depth) = Unit {0}
-FaultsBy (Fault n depth) = (1 ≤ n) × (n ≤ 8)
-
-move-by : (e : ℕ) (g : Going) → FaultsBy (move_of e g)
-move-by e stays = tt
-move-by e (goes address) = tt
+-- a fault has a number from 1 to 8
+abbrev pub FaultsBy : Answer Move → Type 0
+FaultsBy (given m) = Unit {0}
+FaultsBy (refused n) = (1 ≤ n) × (n ≤ 8)
 
 module _ (program : List ℕ) (next : ℕ) (o : Op) (depth : ℕ) (mem cells : List ℕ) where
   on-effect-by : (e : ℕ) (x : Effect) → FailsBy x → FaultsBy (on_effect program next o depth mem cells e x).move
   on-effect-by e (fails n) h = (omega (arith, h.0), h.1)
-  on-effect-by e (leaves mem' vs) h = move-by e (going_of (operand_of cells depth) next (way_of o))
+  on-effect-by e (leaves mem' vs) h = tt
 
   do-by : FaultsBy (do_of program next o depth mem cells).move
   unfolding do_of

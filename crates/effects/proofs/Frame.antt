@@ -12,23 +12,22 @@ use lib.Seq.{sets, get_or-set_other}
 use lib.Dec.{ltb, eqb}
 use borrow.Author.Tests.{leb-true, ltb-true, ltb-false}
 use Rattle.basis.specs.Pick.{pick}
-use Rattle.basis.specs.Answer.{given}
+use Rattle.basis.specs.Answer.{given, refused}
 use Rattle.basis.specs.Number.{bytes_of}
 use Rattle.basis.proofs.Numbers.{length-bytes}
 use Rattle.basis.proofs.Tests.{false-true}
 use Rattle.isa.specs.Op.{Op}
-use Rattle.isa.specs.Shape.{taken_of, pushed_of, way_of}
+use Rattle.isa.specs.Shape.{taken_of, pushed_of}
 use Rattle.isa.specs.Op.{op_of}
 use Rattle.decoder.specs.Decode.{decode_of}
 use Rattle.isa.specs.declared.Instruction.{Instruction}
 use Rattle.isa.specs.declared.Route.{Route}
 use Rattle.effects.specs.Memory.{operand_of, pushed, good, copied}
-use Rattle.effects.specs.Effect.{Effect, fails, leaves, place_of, copied_from, routed, effect_of, Going, stays, goes, going_of}
-use Rattle.effects.specs.Act.{done, move_of, on_effect, do_of, act_of}
-use Rattle.effects.specs.declared.Move.TheVariants.{Fault}
+use Rattle.effects.specs.Effect.{Effect, fails, leaves, place_of, copied_from, routed, effect_of}
+use Rattle.effects.specs.Act.{became, on_effect, do_of, act_of}
 use Rattle.effects.proofs.Opens.{few, full, opened}
 use Rattle.effects.proofs.Keeps.{Keeps, do-deep}
-use Rattle.effects.specs.Reach.{is_fault, writes_from, writes_count, InRange, Out, Framed}
+use Rattle.effects.specs.Reach.{writes_from, writes_count, InRange, Out, Framed}
 use Rattle.isa.specs.Op as op
 use Rattle.isa.specs.declared.Route.TheVariants as route
 
@@ -146,12 +145,8 @@ module _ (program mem : List ℕ) (arg : ℕ → ℕ) (next : ℕ) (mem' vs : Li
   shown-effect (op.Push us) e = still (op.Push us) us e tt refl
   shown-effect op.NoOp e = still op.NoOp [] e tt refl
 
-going-no-fault : (e : ℕ) (g : Going) → is_fault (move_of e g) ≡ true → ⊥
-going-no-fault e stays h = false-true h
-going-no-fault e (goes a) h = false-true h
-
 module _ (program : List ℕ) (next : ℕ) (o : Op) (depth : ℕ) (mem cells : List ℕ) where
-  faulted : (n : ℕ) → Framed program o depth mem cells (done (Fault n 0) mem cells)
+  faulted : (n : ℕ) → Framed program o depth mem cells (became (refused n) mem cells)
   faulted n =
       record {
         in_range = λ h. absurd (false-true (sym h));
@@ -177,7 +172,7 @@ module _ (program : List ℕ) (next : ℕ) (o : Op) (depth : ℕ) (mem cells : L
           let p = s.pushes in
           record {
             in_range = λ h. s.inside;
-            fault_keeps = λ h. absurd (going-no-fault _ (going_of (operand_of cells depth) next (way_of o)) h);
+            fault_keeps = λ h. absurd (false-true h);
             data_length = k.mem-length;
             cells_length = k.cells_length;
             data_kept = s.keeps;

@@ -18,18 +18,18 @@ use Rattle.decoder.specs.Decode.{Reading, decode_of}
 use Rattle.isa.specs.declared.Route.{Route}
 use Rattle.effects.specs.Memory.{good, copied, operand_of}
 use Rattle.effects.specs.Effect.{Effect, fails, leaves, place_of, copied_from, routed, effect_of, Going, stays, goes, going_of}
-use Rattle.effects.specs.Act.{Done, done, move_of, on_effect, on_stack, do_of, on_reading, act_of}
+use Rattle.effects.specs.Act.{became, Done, move_of, on_effect, on_stack, do_of, on_reading, act_of}
 use Rattle.effects.specs.declared.Move.{Move}
-use Rattle.effects.specs.declared.Move.TheVariants.{To, Halt, Fault}
+use Rattle.effects.specs.declared.Move.TheVariants.{To, Halt}
 use Rattle.effects.proofs.Opens.{length-pushed}
 use Rattle.isa.specs.Op as op
 use Rattle.isa.specs.declared.Route.TheVariants as route
 
 -- the depth afterwards; a fault has none
-abbrev pub depth_in : Move → ℕ
-depth_in (To address e) = e
-depth_in (Halt n e) = e
-depth_in (Fault n e) = 0
+abbrev pub depth_in : Answer Move → ℕ
+depth_in (given (To address e)) = e
+depth_in (given (Halt e)) = e
+depth_in (refused n) = 0
 
 pub record Keeps (mem cells : List ℕ) (d : Done) : Type 0 where
   pub mem-length : length d.mem ≡ length mem
@@ -82,10 +82,10 @@ module _ (program mem : List ℕ) (arg : ℕ → ℕ) (next : ℕ) where
   same_effect (op.Push vs) = refl
   same_effect op.NoOp = refl
 
-keeps-fault : (n : ℕ) (mem cells : List ℕ) → Keeps mem cells (done (Fault n 0) mem cells)
+keeps-fault : (n : ℕ) (mem cells : List ℕ) → Keeps mem cells (became (refused n) mem cells)
 keeps-fault n mem cells = record { mem-length = refl; cells_length = refl; depth-within = omega arith }
 
-depth-move : (n e : ℕ) (g : Going) → e ≤ n → depth_in (move_of e g) ≤ n
+depth-move : (n e : ℕ) (g : Going) → e ≤ n → depth_in (given (move_of e g)) ≤ n
 depth-move n e stays h = h
 depth-move n e (goes address) h = h
 

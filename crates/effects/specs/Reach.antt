@@ -1,5 +1,6 @@
 -- What an operation may reach: the ranges of data and program that it names, and the cells that it pushes into.
 use Rattle.std.specs.Prelude.{ℕ, ◌+◌, ◌-◌, ◌≤◌, ◌<◌, ◌≡◌, ◌⊎◌, Bool, true, false, List, length, get_or}
+use Rattle.basis.specs.Answer.{Answer, given, refused}
 use Rattle.isa.specs.Op.{Op}
 use Rattle.isa.specs.Op as op
 use Rattle.isa.specs.Shape.{taken_of, pushed_of}
@@ -7,12 +8,10 @@ use Rattle.effects.specs.Memory.{operand_of}
 use Rattle.effects.specs.Act.{Done}
 use Rattle.effects.specs.Effect.{place_of}
 use Rattle.effects.specs.declared.Move.{Move}
-use Rattle.effects.specs.declared.Move.TheVariants.{To, Halt, Fault}
 
-abbrev pub is_fault : Move → Bool
-is_fault (To address depth) = false
-is_fault (Halt n depth) = false
-is_fault (Fault n depth) = true
+abbrev pub is_fault : Answer Move → Bool
+is_fault (given m) = false
+is_fault (refused n) = true
 
 module _ (arg : ℕ → ℕ) where
   -- the data that an operation may write: from this address

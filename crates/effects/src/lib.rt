@@ -1,11 +1,9 @@
 // What an operation does to the stack and the data, and where it leads.
 #![tactic(auto)]
 
-// What becomes of an operation: it goes on at an address with a depth, it halts (0) with a depth, or it faults with a
-// number (and 0). Every case has two numbers, so that a move stays in registers.
+// What an operation that does not fault leads to: it goes on at an address with a depth, or it halts with a depth.
 #[derive(Clone, Copy)]
 pub enum Move {
     To(usize, usize),
-    Halt(usize, usize),
-    Fault(usize, usize),
+    Halt(usize),
 }

@@ -16,9 +16,7 @@ use Rattle.basis.proofs.Tests.{refused-given, given-one}
 use Rattle.basis.proofs.Numbers.{bytes_drop}
 use Rattle.decoder.specs.Decode.{Reading, head_of, decode_of}
 use Rattle.isa.specs.declared.Instruction.{Instruction}
-use Rattle.encoder.specs.Encode.{well_formed, encoded_of, encode_of, encoded_answer}
-use Rattle.encoder.specs.declared.Encoded.{Encoded}
-use Rattle.encoder.specs.declared.Encoded.TheVariants.{Written, Refused}
+use Rattle.encoder.specs.Encode.{well_formed, encoded_of, encode_of}
 use Rattle.encoder.proofs.Wells.{length-encoded}
 use Rattle.encoder.proofs.Back.{head-back}
 use Rattle.encoder.proofs.Forth.{head-forth}
@@ -93,10 +91,3 @@ apart i j p q h k e =
 
 pub encoded-one : (i j : Instruction) → well_formed i ≡ true → well_formed j ≡ true → encoded_of i ≡ encoded_of j → i ≡ j
 encoded-one i j h k e = apart i j [] [] h k (rw e)
-
--- Each answer of the code stands for one answer of 01.
-pub encoded-answer-one : (a b : Encoded) → encoded_answer a ≡ encoded_answer b → a ≡ b
-encoded-answer-one (Written n) (Written m) e = cc
-encoded-answer-one (Written n) (Refused k) e = absurd (let z : ◌≡◌ {A = ℕ} 0 1 = cc in omega arith)
-encoded-answer-one (Refused k) (Written m) e = absurd (let z : ◌≡◌ {A = ℕ} 0 1 = cc in omega arith)
-encoded-answer-one (Refused k) (Refused l) e = cc

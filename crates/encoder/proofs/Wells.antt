@@ -3,7 +3,7 @@
 use Prim.Native.Nat.{ℕ, ◌+◌, ◌^◌, ◌≤◌, ◌<◌}
 use native.Mathlib.Omega.{arith}
 use mathlib.Core.Path.{◌≡◌, sym}
-use mathlib.Core.Bool.{Bool, true}
+use mathlib.Core.Bool.{true}
 use mathlib.Core.List.{List, ◌∷◌, ◌++◌}
 use lib.Count.{ones}
 use lib.ListN.{length, set, length-append, length-set}
@@ -30,12 +30,6 @@ count-good-le Word n h = omega (arith, eqb-true n 0 h)
 count-good-le Short n h = omega (arith, eqb-true n 0 h)
 count-good-le Values n h = leb-true n 4 (both_right (leb 1 n) (leb n 4) h)
 count-good-le Illegal n h = omega (arith, eqb-true n 0 h)
-
--- four numbers stored one after the other
-pub put_four : (l x₁ x₂ x₃ x₄ : List ℕ) (at w₀ w₁ w₂ w₃ v₀ v₁ v₂ v₃ : ℕ) → x₁ ≡ sets l at (bytes_of w₀ v₀) → x₂ ≡ sets x₁ (at + w₀) (bytes_of w₁ v₁)
-    → x₃ ≡ sets x₂ (at + w₀ + w₁) (bytes_of w₂ v₂) → x₄ ≡ sets x₃ (at + w₀ + w₁ + w₂) (bytes_of w₃ v₃)
-    → x₄ ≡ sets l at (bytes_of w₀ v₀ ++ (bytes_of w₁ v₁ ++ (bytes_of w₂ v₂ ++ bytes_of w₃ v₃)))
-put_four l x₁ x₂ x₃ x₄ at w₀ w₁ w₂ w₃ v₀ v₁ v₂ v₃ p q r s = rw (s, r, q, p) (simp sets-bytes)
 
 pub record WellFormed (i : Instruction) : Type 0 where
   pub number : i.number < limit_in (form_of i.code)
@@ -81,10 +75,6 @@ well-count i w = count-good-le (form_of i.code) i.count w.count
 pub well-flags : (i : Instruction) → WellFormed i → i.flags < 16
 well-flags i w = flags-below i.count i.flags (well-count i w) w.flags
 
-pub length-values : (i : Instruction) → length (value_bytes i)
-    ≡ width0 i.count i.flags + width1 i.count i.flags + width2 i.count i.flags + width3 i.count i.flags
-length-values i = simp (length-append, length-bytes) (omega arith)
-
 pub length-encoded : (i : Instruction) → length (encoded_of i) ≡ 1 + width_in (form_of i.code) + width0 i.count i.flags + width1 i.count i.flags + width2 i.count i.flags + width3 i.count i.flags
 unfolding bytes_in
 length-encoded i = simp (length-append, length-bytes) (omega arith)
@@ -126,10 +116,3 @@ pub well-back : (i : Instruction) → WellFormed i → well_formed i ≡ true
 unfolding well_formed values_good
 well-back i w =
     rw (lt-ltb _ _ w.number, w.count, lt-ltb _ _ w.flags, lt-ltb _ _ w.v0, lt-ltb _ _ w.v1, lt-ltb _ _ w.v2, lt-ltb _ _ w.v3)
-
--- what a call that tests a value against its width says
-pub width-test : (r t : Bool) (v w w' : ℕ) → r ≡ ltb v (256 ^ w) → w ≡ w' → r ≡ t → ltb v (256 ^ w') ≡ t
-width-test r t v w w' p q e = rw (← q, ← p) e
-
-pub count-test : (r t : Bool) (f g : Form) (n : ℕ) → r ≡ count_good f n → f ≡ g → r ≡ t → count_good g n ≡ t
-count-test r t f g n p q e = rw (← q, ← p) e

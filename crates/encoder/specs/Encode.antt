@@ -1,15 +1,13 @@
 -- Which instructions can be written, their bytes, and what the encoder answers.
 use Rattle.std.specs.Prelude.{ℕ, ◌+◌, ◌*◌, ◌-◌, ◌^◌, Bool, List, ◌∷◌, ◌++◌, leb, ltb, eqb}
 use Rattle.basis.specs.Pick.{pick, both}
-use Rattle.basis.specs.Answer.{Answer, given, refused}
+use Rattle.basis.specs.Answer.{Answer, refused}
 use Rattle.basis.specs.Number.{bytes_of}
 use Rattle.basis.specs.Room.{fitted}
 use Rattle.forms.specs.Form.{form_of, width_in, limit_in, width0, width1, width2, width3}
 use Rattle.forms.specs.declared.Form.{Form}
 use Rattle.forms.specs.declared.Form.TheVariants.{Plain, Byte, Shift, Word, Short, Values, Illegal}
 use Rattle.isa.specs.declared.Instruction.{Instruction}
-use Rattle.encoder.specs.declared.Encoded.{Encoded}
-use Rattle.encoder.specs.declared.Encoded.TheVariants.{Written, Refused}
 
 -- "push count not 1 to 4", "a .. count .. that the form lacks not 0"
 abbrev pub count_good : Form → ℕ → Bool
@@ -66,8 +64,3 @@ encoded_of i = bytes_in (form_of i.code) i
 -- what the encoder writes into a room of n bytes: "26, 25"
 unfoldable pub encode_of : Instruction → ℕ → Answer (List ℕ)
 encode_of i n = pick (well_formed i) (fitted n (encoded_of i)) (refused 26)
-
--- the code's answer as 01 gives it: the length
-abbrev pub encoded_answer : Encoded → Answer ℕ
-encoded_answer (Written n) = given n
-encoded_answer (Refused n) = refused n

@@ -4,19 +4,14 @@
 ghost use Rattle.std.specs.Prelude.{◌≡◌, true, ◌+◌, ◌^◌, ◌≤◌, length, ltb};
 ghost use Rattle.std.proofs.lemmas.List.Edits.{sets};
 ghost use Rattle.basis.specs.Answer.{seen};
+ghost use Rattle.basis.specs.Refusal.{answer_of};
 ghost use Rattle.basis.specs.Room.{room_after};
 ghost use Rattle.forms.specs.Form.{form_of, width0, width1, width2, width3};
-ghost use Rattle.encoder.specs.Encode.{count_good, values_good, well_formed, first_in, value_bytes, encoded_of, encode_of, encoded_answer};
+ghost use Rattle.encoder.specs.Encode.{count_good, values_good, well_formed, first_in, value_bytes, encoded_of, encode_of};
 
+use basis::Refusal;
 use forms::{Form, flags_end, form_of, limit_in, value_width, width_in};
 use isa::Instruction;
-
-// What became of an instruction: the bytes written, or a refusal's number.
-#[derive(Clone, Copy)]
-pub enum Encoded {
-    Written(usize),
-    Refused(usize),
-}
 
 // The count is one that the form has.
 fn count_good(form: Form, count: u8) -> bool
@@ -48,45 +43,32 @@ fn value_good(v: u16, w: usize) -> bool
 }
 
 // The values fit their widths.
+#[tactic(auto, using(forms::proofs::Widths::narrow), unfolding(crate::specs::Encode::values_good))]
 fn values_good(i: Instruction) -> bool
     ensures { result ≡ values_good i }
 {
     let count = i.count;
     let flags = i.flags;
-    if !value_good(i.v0, value_width(0, count, flags)) {
-        return false;
-    }
-    if !value_good(i.v1, value_width(1, count, flags / 2)) {
-        return false;
-    }
-    if !value_good(i.v2, value_width(2, count, flags / 4)) {
-        return false;
-    }
-    value_good(i.v3, value_width(3, count, flags / 8))
+    value_good(i.v0, value_width(0, count, flags))
+        && value_good(i.v1, value_width(1, count, flags / 2))
+        && value_good(i.v2, value_width(2, count, flags / 4))
+        && value_good(i.v3, value_width(3, count, flags / 8))
 }
 
 // The instruction can be written.
+#[tactic(auto, unfolding(crate::specs::Encode::well_formed))]
 fn well_formed(i: Instruction) -> bool
     ensures { result ≡ well_formed i }
 {
-    let f = form_of(i.code);
-    let limit = limit_in(f);
-    let number = i.number as u32;
-    if limit <= number {
-        return false;
-    }
-    let count = i.count;
-    if !count_good(f, count) {
-        return false;
-    }
-    let end = flags_end(count);
-    if end <= i.flags {
-        return false;
-    }
-    values_good(i)
+    let form = form_of(i.code);
+    (i.number as u32) < limit_in(form)
+        && count_good(form, i.count)
+        && i.flags < flags_end(i.count)
+        && values_good(i)
 }
 
 // The first byte of a well-formed instruction.
+// Stays: `well_formed i` as a clause of three functions: a struct of an instruction and that fact is no plainer, it would be taken apart for each field.
 fn first_of(i: Instruction) -> u8
     requires { well_formed i ≡ true }
     ensures { result ≡ first_in (form_of i.code) i }
@@ -104,6 +86,7 @@ fn first_of(i: Instruction) -> u8
 }
 
 // Puts the bytes of the values at a place.
+#[tactic(auto, using(forms::proofs::Widths::narrow, basis::proofs::Stores::parts))]
 fn put_values(i: Instruction, room: &mut [u8], at: usize)
     requires { at + width0 i.count i.flags + width1 i.count i.flags + width2 i.count i.flags + width3 i.count i.flags ≤ length room.old }
     ensures { room.new ≡ sets room.old at (value_bytes i) }
@@ -145,17 +128,18 @@ fn encoded_length(i: Instruction) -> usize
 }
 
 // Writes an instruction at the start of a room, or refuses and leaves the room as it was.
-pub fn encode(i: Instruction, room: &mut [u8]) -> Encoded
-    ensures result_value { encoded_answer result ≡ seen length (encode_of i (length room.old)) }
+#[tactic(auto, using(basis::proofs::Stores::starts), unfolding(crate::specs::Encode::encode_of))]
+pub fn encode(i: Instruction, room: &mut [u8]) -> Result<usize, Refusal>
+    ensures result_value { answer_of result ≡ seen length (encode_of i (length room.old)) }
     ensures room_after { room.new ≡ room_after (encode_of i (length room.old)) room.old }
 {
     if !well_formed(i) {
-        return Encoded::Refused(26);
+        return Err(Refusal::Unwritable);
     }
     let n = encoded_length(i);
     if room.len() < n {
-        return Encoded::Refused(25);
+        return Err(Refusal::ShortRoom);
     }
     put_bytes(i, room);
-    Encoded::Written(n)
+    Ok(n)
 }

@@ -4,10 +4,12 @@
 ghost use Rattle.std.specs.Prelude.{◌≡◌, ◌≤◌, length};
 ghost use Rattle.answers.specs.Admissions.{admission_of, kept_in, untold, told_in, start_in, close_in, ask_in, lent, chunk_in};
 
-use admission::Admission;
+use admission::{Admission, Admitted};
 use answers::KhxAdmitted;
+use basis::Refusal;
 
 // The admission that eight numbers are of.
+// Stays: the C interface: the numbers are lent as a slice, and neither it nor an admission is this crate's or the answers' own, so that no `From` can be written.
 fn read(numbers: &[usize]) -> Admission
     requires { 8 ≤ length numbers.now }
     ensures { result ≡ admission_of numbers.now }
@@ -25,6 +27,7 @@ fn read(numbers: &[usize]) -> Admission
 }
 
 // Its eight numbers are written over those that are lent.
+// Stays: as `read`.
 fn keep(st: Admission, numbers: &mut [usize])
     requires { 8 ≤ length numbers.old }
     ensures { numbers.new ≡ kept_in st numbers.old }
@@ -52,30 +55,30 @@ fn alone(refusal: usize) -> KhxAdmitted
 }
 
 // What an admission answers; by 90 and 91 the refusal alone.
+// Stays: no `From`: it is made of two, and `khx_admit_ask` has a number that is no refusal of an Admitted.
+#[tactic(auto, unfolding(answers::specs::Admissions::told_in))]
 fn told(refusal: usize, st: Admission) -> KhxAdmitted
     ensures { result ≡ told_in refusal st }
 {
     if 90 <= refusal {
         return alone(refusal);
     }
-    let closed = st.closed;
-    let verdicts = st.judged;
-    let lost = admission::lost(st);
     KhxAdmitted {
         refusal,
-        closed,
-        verdicts,
-        lost,
+        closed: st.closed,
+        verdicts: st.judged,
+        lost: admission::lost(st),
     }
 }
 
 // An admission of which no byte has come is written into eight numbers.
 #[unsafe(no_mangle)]
+#[tactic(auto, unfolding(answers::specs::Admissions::start_in))]
 pub extern "C" fn khx_admit_start(numbers: &mut [usize]) -> KhxAdmitted
     ensures { (result, numbers.new) ≡ start_in numbers.old }
 {
     if numbers.len() < 8 {
-        return alone(90);
+        return alone(usize::from(Refusal::ShortMemory));
     }
     let fresh = admission::start();
     keep(fresh, numbers);
@@ -84,6 +87,7 @@ pub extern "C" fn khx_admit_start(numbers: &mut [usize]) -> KhxAdmitted
 
 // A chunk comes, of any length.
 #[unsafe(no_mangle)]
+#[tactic(auto, unfolding(answers::specs::Admissions::chunk_in))]
 pub extern "C" fn khx_admit_chunk(
     numbers: &mut [usize],
     chunk: &[u8],
@@ -95,39 +99,43 @@ pub extern "C" fn khx_admit_chunk(
     ensures { lent result numbers.new contents.new body.new map.new verdicts.new ≡ chunk_in chunk.now numbers.old contents.old body.old map.old verdicts.old }
 {
     if numbers.len() < 8 {
-        return alone(90);
+        return alone(usize::from(Refusal::ShortMemory));
     }
     let before = read(numbers);
-    let admitted = intake::chunk(before, chunk, contents, body, map, verdicts);
-    let refusal = admitted.refusal;
-    let after = admitted.admission;
+    let Admitted {
+        refusal,
+        admission: after,
+    } = intake::chunk(before, chunk, contents, body, map, verdicts);
     keep(after, numbers);
     told(refusal, after)
 }
 
 // The pack has come.
 #[unsafe(no_mangle)]
+#[tactic(auto, unfolding(answers::specs::Admissions::close_in))]
 pub extern "C" fn khx_admit_close(numbers: &mut [usize]) -> KhxAdmitted
     ensures { (result, numbers.new) ≡ close_in numbers.old }
 {
     if numbers.len() < 8 {
-        return alone(90);
+        return alone(usize::from(Refusal::ShortMemory));
     }
     let still = read(numbers);
-    let admitted = admission::close(still);
-    let refusal = admitted.refusal;
-    let ended = admitted.admission;
+    let Admitted {
+        refusal,
+        admission: ended,
+    } = admission::close(still);
     keep(ended, numbers);
     told(refusal, ended)
 }
 
 // The answer so far.
 #[unsafe(no_mangle)]
+#[tactic(auto, unfolding(answers::specs::Admissions::ask_in))]
 pub extern "C" fn khx_admit_ask(numbers: &[usize]) -> KhxAdmitted
     ensures { result ≡ ask_in numbers.now }
 {
     if numbers.len() < 8 {
-        return alone(90);
+        return alone(usize::from(Refusal::ShortMemory));
     }
     let st = read(numbers);
     let answer = admission::ask(st);

@@ -6,7 +6,6 @@ ghost use Rattle.listing.specs.Listing.{list_of};
 ghost use Rattle.answers.specs.Written.{written_in};
 
 use answers::KhxWritten;
-use listing::Listed;
 
 // Writes the listing of a program at the start of a room, or refuses and leaves the room as it was.
 #[unsafe(no_mangle)]
@@ -14,8 +13,5 @@ pub extern "C" fn khx_list(program: &[u8], room: &mut [u8]) -> KhxWritten
     ensures value { result ≡ written_in (seen length (list_of program.now (length room.old))) }
     ensures room_after { room.new ≡ room_after (list_of program.now (length room.old)) room.old }
 {
-    match listing::list(program, room) {
-        Listed::Written(length) => KhxWritten { refusal: 0, length },
-        Listed::Refused(refusal) => KhxWritten { refusal, length: 0 },
-    }
+    KhxWritten::from(listing::list(program, room))
 }

@@ -6,7 +6,6 @@ ghost use Rattle.report.specs.Report.{write_of, map_of};
 ghost use Rattle.answers.specs.Written.{written_in};
 
 use answers::KhxWritten;
-use report::Reported;
 
 // Writes the report on a pack at the start of a room, or refuses and leaves the room as it was; the map is worked in.
 #[unsafe(no_mangle)]
@@ -15,8 +14,5 @@ pub extern "C" fn khx_report(pack: &[u8], map: &mut [u16], room: &mut [u8]) -> K
     ensures room_after { room.new ≡ room_after (write_of pack.now (length map.old) (length room.old)) room.old }
     ensures map_after { map.new ≡ map_of pack.now map.old }
 {
-    match report::write(pack, map, room) {
-        Reported::Written(length) => KhxWritten { refusal: 0, length },
-        Reported::Refused(refusal) => KhxWritten { refusal, length: 0 },
-    }
+    KhxWritten::from(report::write(pack, map, room))
 }

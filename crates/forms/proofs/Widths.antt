@@ -122,3 +122,6 @@ flags-below (suc (suc zero)) f c h = omega arith
 flags-below (suc (suc (suc zero))) f c h = omega arith
 flags-below (suc (suc (suc (suc zero)))) f c h = omega arith
 flags-below (suc (suc (suc (suc (suc n))))) f c h = absurd (omega arith)
+
+-- every value has at most two bytes, for the search
+pub ruleset narrow = (value-width-le)

@@ -8,7 +8,7 @@ use mathlib.Core.Logic.{◌≢◌}
 use mathlib.Core.Bool.{Bool, true, false, not}
 use mathlib.Core.List.{List}
 use lib.Count.{ones}
-use lib.Dec.{ltb, leb}
+use lib.Dec.{ltb}
 use lib.ListN.{length, get_or, drop, length-drop}
 use lib.Seq.{get_or-drop, drop-cons}
 use borrow.Author.Tests.{lt-ltb, le-ltb, lt-leb, eq-eqb, ne_eqb}
@@ -16,8 +16,7 @@ use Rattle.basis.specs.Pick.{pick, both}
 use Rattle.basis.specs.Answer.{Answer, given, refused}
 use Rattle.basis.specs.Number.{number_at, Bytes}
 use Rattle.basis.proofs.Numbers.{number_lt, bytes_drop}
-use Rattle.basis.proofs.Tables.{every, at, span}
-use Rattle.basis.proofs.Tables as tables
+use Rattle.basis.proofs.Tables.{every, at}
 use Rattle.basis.proofs.Tests.{both_left, both_right, false-true}
 use Rattle.forms.specs.Form.{form_of, code_of, limit_in, length_of}
 use Rattle.forms.specs.declared.Form.{Form}
@@ -243,20 +242,6 @@ below Word s h n l = number_lt 2 s 1 h
 below Short s h n l = omega arith
 below Values s h n l = omega arith
 below Illegal s h n l = absurd (omega arith)
-
--- of the n first bytes from lo those from k on are none of them
-abbrev same : Bool → Bool → Bool
-same true u = u
-same false u = not u
-
-same-one : (t u : Bool) → same t u ≡ true → t ≡ u
-same-one true true e = refl
-same-one true false e = absurd (false-true e)
-same-one false true e = absurd (false-true e)
-same-one false false e = refl
-
-pub among : (k lo n : ℕ) → span (λ b. same (leb k b) (not (turning b))) lo n ≡ true → (b : ℕ) → lo ≤ b → b < lo + n → leb k b ≡ not (turning b)
-among k lo n t b h l = same-one (leb k b) (not (turning b)) (tables.inside (λ c. same (leb k c) (not (turning c))) lo n t b h l)
 
 pub not-turning : (t : Bool) → not t ≡ true → t ≡ false
 not-turning true e = absurd (false-true e)

@@ -8,12 +8,11 @@ ghost use Rattle.isa.specs.declared.Way.TheVariants.{Next};
 ghost use Rattle.paths.specs.Paths.{bad};
 ghost use Rattle.look.specs.Look.{on_way, look_of, outcome_in};
 ghost use Rattle.glance.specs.Firsts.{turning, after_of, first_on};
-ghost use Rattle.shapes.specs.Shapes.{shape_rows};
 
-use basis::number_at;
+use basis::{Refusal, number_at};
 use isa::{Route, Way};
 use look::Look;
-use shapes::Shape;
+use shapes::Shapes;
 
 // What was found of an instruction: where the next one begins; the cells, and the depth at which it was met; the values that it takes
 // and pushes, by its row.
@@ -27,7 +26,7 @@ struct Found {
 }
 
 // Where a way leads behind the stack check.
-fn led(found: Found, way: Way) -> Look
+fn led(found: Found, way: Way) -> Result<Look, Refusal>
     ensures { outcome_in result ≡ on_way found.next way (after_of found) }
 {
     let after = isa::depth_after(found.cells, found.depth, found.taken, found.pushed);
@@ -35,19 +34,19 @@ fn led(found: Found, way: Way) -> Look
 }
 
 // A shift by a number in the code, which is below 16.
-fn shifted(program: &[u8], at: usize, found: Found) -> Look
+fn shifted(program: &[u8], at: usize, found: Found) -> Result<Look, Refusal>
     requires { at + 2 ≤ length program.now }
     ensures { outcome_in result ≡ pick (ltb (get_or program.now (at + 1) 0) 16) (on_way found.next Next (after_of found)) (bad 2) }
 {
-    let place = at + 1;
-    if 16 <= program[place] {
-        return Look::Bad(2);
+    if 16 <= program[at + 1] {
+        return Err(Refusal::Illegal);
     }
     led(found, Way::Next)
 }
 
+// Stays: a match: the arms are the ways themselves, and 0x31 and 0x32 stand apart as their answers do.
 // What the instruction at an address leads to, by its first byte: the arms are those that lead elsewhere than to the next one, and the shifts.
-fn look_on(first: u8, program: &[u8], at: usize, found: Found) -> Look
+fn look_on(first: u8, program: &[u8], at: usize, found: Found) -> Result<Look, Refusal>
     requires { (at + length_of first ≤ length program.now) × (0 < length_of first) }
     ensures { outcome_in result ≡ first_on program.now at first found }
 {
@@ -79,47 +78,47 @@ fn look_on(first: u8, program: &[u8], at: usize, found: Found) -> Look
 
 // A first byte that has no arm above: the next instruction follows, whatever stands between. It is asked before the arms, since most
 // first bytes have none, and a test is foreseen more often than a jump among the arms.
+// Stays: one `matches!` of those bytes was tried and is slower: 90 us where this takes 72 (verify-straight), 43 where it takes 31 (verify-hostile).
 fn follows(first: u8) -> bool
     ensures { result ≡ not (turning first) }
 {
-    if 0x55 <= first {
-        return 0x5B <= first;
+    match first {
+        0x55.. => 0x5B <= first,
+        0x3B.. => 0x41 <= first,
+        0x31.. => 0x33 <= first,
+        0x05.. => 0x0B <= first,
+        _ => 0x01 <= first,
     }
-    if 0x3B <= first {
-        return 0x41 <= first;
-    }
-    if 0x31 <= first {
-        return 0x33 <= first;
-    }
-    if 0x05 <= first {
-        return 0x0B <= first;
-    }
-    0x01 <= first
 }
 
-// What the instruction at an address leads to from a depth, with so many cells; the rows are the table of shapes.
-pub fn look_at(rows: &[u8], program: &[u8], cells: usize, at: usize, depth: usize) -> Look
-    requires { (rows.now ≡ shape_rows) × (at < length program.now) × (length program.now ≤ 16384) }
+// What the instruction at an address leads to from a depth, with so many cells.
+// Stays: program, cells and shapes by themselves: a struct of them is no plainer for three functions, which each take another part of it.
+pub fn look_at(
+    shapes: Shapes,
+    program: &[u8],
+    cells: usize,
+    at: usize,
+    depth: usize,
+) -> Result<Look, Refusal>
+    requires { (at < length program.now) × (length program.now ≤ 16384) }
     ensures { outcome_in result ≡ look_of program.now cells at depth }
 {
     let first = program[at];
-    match shapes::row_in(rows, first) {
-        Shape::Row(length, taken, pushed) => {
-            if program.len() - at < length {
-                return Look::Bad(3);
-            }
-            let found = Found {
-                next: at + length,
-                cells,
-                depth,
-                taken,
-                pushed,
-            };
-            if follows(first) {
-                return led(found, Way::Next);
-            }
-            look_on(first, program, at, found)
-        }
-        Shape::Illegal => Look::Bad(2),
+    let Some(row) = shapes.row(first) else {
+        return Err(Refusal::Illegal);
+    };
+    if program.len() - at < row.length {
+        return Err(Refusal::Cut);
     }
+    let found = Found {
+        next: at + row.length,
+        cells,
+        depth,
+        taken: row.taken,
+        pushed: row.pushed,
+    };
+    if follows(first) {
+        return led(found, Way::Next);
+    }
+    look_on(first, program, at, found)
 }

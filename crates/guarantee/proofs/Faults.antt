@@ -6,13 +6,13 @@ use mathlib.Core.Path.{◌≡◌, refl, sym, ap₂}
 use mathlib.Core.Bool.{true, false}
 use mathlib.Core.List.{List}
 use lib.ListN.{length}
-use Rattle.basis.specs.Answer.{refused}
+use Rattle.basis.specs.Answer.{Answer, given, refused}
 use Rattle.basis.proofs.Tests.{false-true}
 use Rattle.decoder.specs.Decode.{decode_of}
-use Rattle.effects.specs.Act.{done, act_of}
+use Rattle.effects.specs.Act.{became, act_of}
 use Rattle.effects.specs.Reach.{is_fault}
 use Rattle.effects.specs.declared.Move.{Move}
-use Rattle.effects.specs.declared.Move.TheVariants.{To, Halt, Fault}
+use Rattle.effects.specs.declared.Move.TheVariants.{To, Halt}
 use Rattle.effects.proofs.Faults.{FaultsBy, act_by, act-still}
 use Rattle.machine.specs.Machine.{Machine, machine, state_after, landed, step_of}
 use Rattle.machine.specs.Run.{is_faulted}
@@ -29,11 +29,11 @@ fault-alters program m h =
     let d = act_of program m.state.address m.state.depth m.mem m.cells in
     by d.move d.mem d.cells (act-still program m.state.address m.state.depth m.mem m.cells) h
   where
-    by : (made : Move) (mem cells : List ℕ) → (is_fault made ≡ true → (mem ≡ m.mem) × (cells ≡ m.cells)) → is_faulted (state_after m.state made).status ≡ true
-        → (n : ℕ) × (landed m.state (done made mem cells) ≡ with_fault n m)
-    by (To a e) mem cells k f = absurd (false-true f)
-    by (Halt z e) mem cells k f = absurd (false-true f)
-    by (Fault n z) mem cells k f = (n, ap₂ (λ (x y : List ℕ). machine (state_after m.state (Fault n z)) x y) (k refl).0 (k refl).1)
+    by : (made : Answer Move) (mem cells : List ℕ) → (is_fault made ≡ true → (mem ≡ m.mem) × (cells ≡ m.cells)) → is_faulted (state_after m.state made).status ≡ true
+        → (n : ℕ) × (landed m.state (became made mem cells) ≡ with_fault n m)
+    by (given (To a e)) mem cells k f = absurd (false-true f)
+    by (given (Halt e)) mem cells k f = absurd (false-true f)
+    by (refused n) mem cells k f = (n, ap₂ (λ (x y : List ℕ). machine (state_after m.state (refused n)) x y) (k refl).0 (k refl).1)
 
 -- where nothing is read
 pub unread-alters : (program : List ℕ) (m : Machine) (n : ℕ) → decode_of program m.state.address ≡ refused n → step_of program m ≡ with_fault n m
@@ -46,10 +46,10 @@ status-by Running f = tt
 status-by Halted f = tt
 status-by (Faulted n) f = absurd (false-true (sym f))
 
-moved_by : (s : State) (made : Move) → FaultsBy made → FaultedBy (state_after s made).status
-moved_by s (To a e) h = tt
-moved_by s (Halt z e) h = tt
-moved_by s (Fault n z) h = (h.0, omega (arith, h.1))
+moved_by : (s : State) (made : Answer Move) → FaultsBy made → FaultedBy (state_after s made).status
+moved_by s (given (To a e)) h = tt
+moved_by s (given (Halt e)) h = tt
+moved_by s (refused n) h = (h.0, omega (arith, h.1))
 
 step_by : (program : List ℕ) (m : Machine) → length program ≤ 16384 → FaultedBy (step_of program m).state.status
 unfolding step_of

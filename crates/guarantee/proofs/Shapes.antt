@@ -2,6 +2,7 @@
 -- Assumes nothing.
 use Prim.Native.Nat.{ℕ, ◌+◌, ◌-◌, ◌/◌, ◌%◌, ◌^◌, ◌≤◌, ◌<◌}
 use native.Mathlib.Omega.{arith}
+use Rattle.std.specs.Prelude.{Option, Some, None}
 use mathlib.Core.Path.{◌≡◌, refl, sym, ap, ap₂, subst, ◌∙◌}
 use mathlib.Core.Logic.{◌⊎◌, inl, inr}
 use mathlib.Core.Bool.{Bool, true, false, not}
@@ -28,10 +29,9 @@ use Rattle.isa.proofs.Codes.{taken-op, pushed-op}
 use Rattle.decoder.specs.Decode.{Reading, number_in, instruction_in, head_of, decode_of}
 use Rattle.decoder.specs.Refusals.{Inside, Why, over_size, past_end, illegal_first, cut, illegal_shift}
 use Rattle.decoder.proofs.Refuses.{refusal-why, why-refusal}
-use Rattle.shapes.specs.Shapes.{shape_of}
-use Rattle.shapes.specs.declared.Shape.{Shape}
-use Rattle.shapes.specs.declared.Shape.TheVariants as shape
-use Rattle.shapes.proofs.Looks.{rows-length, row_at, Says, row-says, illegal-says}
+use Rattle.shapes.specs.declared.row.Row.{Row}
+use Rattle.shapes.specs.Shapes.{row, shape_of}
+use Rattle.shapes.proofs.Looks.{rows-length, row_at, Says, row-says, none-says}
 use Rattle.effects.specs.Memory.{operand_of}
 use Rattle.effects.specs.Effect.{Effect, fails, leaves, effect_of, Going, stays, goes, going_of}
 use Rattle.effects.specs.Act.{move_of, on_effect, do_of, act_of}
@@ -48,9 +48,9 @@ unfolding OneTable
 one_table = (rows-length, row_at)
 
 -- every row is small
-abbrev small : Shape → Bool
-small (shape.Row l t p) = both (both (leb 1 l) (leb l 9)) (both (leb t 3) (leb p 4))
-small shape.Illegal = true
+abbrev small : Option Row → Bool
+small (Some r) = both (both (leb 1 r.length) (leb r.length 9)) (both (leb r.taken 3) (leb r.pushed 4))
+small None = true
 
 all_small : every (λ b. small (shape_of b)) 256 ≡ true
 unfolding shape_of length_of form_of code_of ones taken_in pushed_in op_in
@@ -59,7 +59,7 @@ all_small = refl
 pub small-rows : SmallRows
 unfolding SmallRows
 small-rows b l t p h e =
-    let x : small (shape.Row l t p) ≡ true = rw e at (at (λ c. small (shape_of c)) 256 all_small b h) in
+    let x : small (Some (row l t p)) ≡ true = rw e at (at (λ c. small (shape_of c)) 256 all_small b h) in
     let y = both_left (both (leb 1 l) (leb l 9)) (both (leb t 3) (leb p 4)) x in
     let z = both_right (both (leb 1 l) (leb l 9)) (both (leb t 3) (leb p 4)) x in (
       leb-true 1 l (both_left (leb 1 l) (leb l 9) y),
@@ -173,10 +173,10 @@ module _ (program : List ℕ) (a b l t p : ℕ) (bytes : Bytes program) (i : Ins
 
 pub decoder-by-row : DecoderByRow
 unfolding DecoderByRow
-decoder-by-row program a b l t p bytes i e = decodes program a b l t p bytes i (row-says b l t p (sym e))
+decoder-by-row program a b l t p bytes i e = decodes program a b l t p bytes i (row-says b (row l t p) (sym e))
 
-decode-none : (program : List ℕ) (a b : ℕ) → Inside program a b → shape_of b ≡ shape.Illegal → decode_of program a ≡ refused 2
-decode-none program a b i e = why-refusal program a 2 (illegal_first i (illegal-says b (sym e)))
+decode-none : (program : List ℕ) (a b : ℕ) → Inside program a b → shape_of b ≡ None → decode_of program a ≡ refused 2
+decode-none program a b i e = why-refusal program a 2 (illegal_first i (none-says b (sym e)))
 
 -- a step, by what is read
 module _ (program : List ℕ) (m : Machine) where
@@ -201,18 +201,18 @@ module _ (program : List ℕ) (m : Machine) where
   effected next e o (fails n) h = inl (n, h.0, h.1, refl)
   effected next e o (leaves mem' vs) h = inr (by (going_of (operand_of m.cells depth) next (way_of o)))
     where
-      by : (g : Going) → (state_after m.state (move_of e g)).depth ≡ e
+      by : (g : Going) → (state_after m.state (given (move_of e g))).depth ≡ e
       by stays = refl
       by (goes to) = refl
 
 module _ (program : List ℕ) (m : Machine) (b l t p : ℕ) (bytes : Bytes program) (i : Inside program m.state.address b) (w : Says b l t p) where
-  row : (r : Reading) → decode_of program (address program m) ≡ given r → Rowed r l t p
-  row r e = reading-row program (address program m) l t p r (says program (address program m) b l t p bytes i w) e
+  rowed : (r : Reading) → decode_of program (address program m) ≡ given r → Rowed r l t p
+  rowed r e = reading-row program (address program m) l t p r (says program (address program m) b l t p bytes i w) e
 
   step-does : (r : Reading) → decode_of program (address program m) ≡ given r
       → (taken_of (op_of r.0) ≡ t) × (pushed_of (op_of r.0) ≡ p) × (step_of program m ≡ landed m.state (do_of program (address program m + l) (op_of r.0) (depth program m) m.mem m.cells))
   step-does r e =
-      let z = row r e in
+      let z = rowed r e in
       (z.1, z.2, given-step program m r e ∙ ap (λ (n : ℕ). landed m.state (do_of program (address program m + n) (op_of r.0) (depth program m) m.mem m.cells)) z.0)
 
   step-few : Whole program (address program m) l → depth program m < t → step_of program m ≡ with_fault 4 m
@@ -253,7 +253,7 @@ module _ (program : List ℕ) (m : Machine) (b l t p : ℕ) (bytes : Bytes progr
 pub step-by-row : StepByRow
 unfolding StepByRow
 step-by-row program m b bytes i =
-    (λ e. refused-step program m 2 (decode-none program m.state.address b i e), λ l t p e. steps program m b l t p bytes i (row-says b l t p (sym e)))
+    (λ e. refused-step program m 2 (decode-none program m.state.address b i e), λ l t p e. steps program m b l t p bytes i (row-says b (row l t p) (sym e)))
 
 -- a look, by what is read
 module _ (program : List ℕ) (cells a d : ℕ) where
@@ -343,25 +343,25 @@ module _ (program : List ℕ) (cells a b d l t p : ℕ) (bytes : Bytes program) 
 pub verifier-by-row : VerifierByRow
 unfolding VerifierByRow
 verifier-by-row program cells a b d bytes i =
-    (λ e. refused-look program cells a d 2 (decode-none program a b i e), λ l t p e. looks program cells a b d l t p bytes i (row-says b l t p (sym e)))
+    (λ e. refused-look program cells a d 2 (decode-none program a b i e), λ l t p e. looks program cells a b d l t p bytes i (row-says b (row l t p) (sym e)))
 
 -- with a first byte that is not illegal, and zeros behind it, an instruction begins
 abbrev is_given : {A : Type 0} → Answer A → Bool
 is_given (given x) = true
 is_given (refused k) = false
 
-abbrev is_illegal : Shape → Bool
-is_illegal (shape.Row l t p) = false
-is_illegal shape.Illegal = true
+abbrev is_illegal : Option Row → Bool
+is_illegal (Some r) = false
+is_illegal None = true
 
 all-begin : every (λ b. pick (is_illegal (shape_of b)) true (is_given (decode_of (b ∷ replicate 8 0) 0))) 256 ≡ true
 unfolding decode_of head_of shape_of length_of form_of code_of ones taken_in pushed_in op_in value_width
 all-begin = refl
 
-begins : (b : ℕ) → b < 256 → (s : Shape) → shape_of b ≡ s → (s ≡ shape.Illegal → ⊥) → (x : Answer Reading) → decode_of (b ∷ replicate 8 0) 0 ≡ x → (r : Reading) × (x ≡ given r)
-begins b h (shape.Row l t p) e n (given r) q = (r, refl)
-begins b h (shape.Row l t p) e n (refused k) q = absurd (false-true (rw (e, q) at (at (λ c. pick (is_illegal (shape_of c)) true (is_given (decode_of (c ∷ replicate 8 0) 0))) 256 all-begin b h)))
-begins b h shape.Illegal e n x q = absurd (n refl)
+begins : (b : ℕ) → b < 256 → (s : Option Row) → shape_of b ≡ s → (s ≡ None → ⊥) → (x : Answer Reading) → decode_of (b ∷ replicate 8 0) 0 ≡ x → (r : Reading) × (x ≡ given r)
+begins b h (Some w) e n (given r) q = (r, refl)
+begins b h (Some w) e n (refused k) q = absurd (false-true (rw (e, q) at (at (λ c. pick (is_illegal (shape_of c)) true (is_given (decode_of (c ∷ replicate 8 0) 0))) 256 all-begin b h)))
+begins b h None e n x q = absurd (n refl)
 
 -- the illegal bytes by their rule
 abbrev illegal_by : ℕ → Bool
@@ -379,11 +379,11 @@ rule-by : (b : ℕ) → IsIllegal b → illegal_by b ≡ true
 rule-by b (unused h k) = let n : b < 0xC0 = omega arith in rw (lt-leb 0xC0 b n, le-leb 0x5B b h, lt-ltb b 0x80 k)
 rule-by b (absent h k) = rw (le-leb 0xC0 b h, le-leb (2 ^ (b % 4 + 1)) (b / 4 % 16) k)
 
-ruled : (b : ℕ) → b < 256 → (s : Shape) → shape_of b ≡ s → (s ≡ shape.Illegal → IsIllegal b) × (IsIllegal b → s ≡ shape.Illegal)
-ruled b h (shape.Row l t p) e =
+ruled : (b : ℕ) → b < 256 → (s : Option Row) → shape_of b ≡ s → (s ≡ None → IsIllegal b) × (IsIllegal b → s ≡ None)
+ruled b h (Some w) e =
     let x : not (illegal_by b) ≡ true = rw e at (at (λ c. pick (is_illegal (shape_of c)) (illegal_by c) (not (illegal_by c))) 256 all-illegal b h) in
     (λ q. absurd (let z : ◌≡◌ {A = ℕ} 0 1 = cc in omega arith), λ i. absurd (false-true (rw (rule-by b i) at x)))
-ruled b h shape.Illegal e =
+ruled b h None e =
     let x : illegal_by b ≡ true = rw e at (at (λ c. pick (is_illegal (shape_of c)) (illegal_by c) (not (illegal_by c))) 256 all-illegal b h) in
     (λ q. by-rule b (leb 0xC0 b) refl x, λ i. refl)
 

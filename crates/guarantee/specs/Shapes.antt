@@ -1,6 +1,6 @@
 -- Request No. 5, sentence by sentence: one table says of each first byte its "length, values taken and values pushed", and decoder, step and
 -- verifier go by it. "prove that decoder, step and verifier answer as before": no contract of theirs changed for it, and no proposition of Demands.
-use Rattle.std.specs.Prelude.{ℕ, ◌+◌, ◌-◌, ◌*◌, ◌/◌, ◌%◌, ◌^◌, ◌≤◌, ◌<◌, ◌≡◌, ◌⊎◌, List, ◌∷◌, length, get_or, replicate}
+use Rattle.std.specs.Prelude.{ℕ, ◌+◌, ◌-◌, ◌*◌, ◌/◌, ◌%◌, ◌^◌, ◌≤◌, ◌<◌, ◌≡◌, ◌⊎◌, List, ◌∷◌, Some, None, length, get_or, replicate}
 use Rattle.basis.specs.Pick.{pick}
 use Rattle.basis.specs.Answer.{given, refused}
 use Rattle.basis.specs.Number.{Bytes}
@@ -8,8 +8,7 @@ use Rattle.isa.specs.Op.{op_of}
 use Rattle.isa.specs.Shape.{taken_of, pushed_of, way_of, depth_after}
 use Rattle.decoder.specs.Decode.{Reading, decode_of}
 use Rattle.decoder.specs.Refusals.{Inside}
-use Rattle.shapes.specs.Shapes.{shape_of, numbers_of, shape_rows}
-use Rattle.shapes.specs.declared.Shape.TheVariants.{Row, Illegal}
+use Rattle.shapes.specs.Shapes.{row, shape_of, numbers_of, shape_rows}
 use Rattle.effects.specs.Act.{do_of}
 use Rattle.paths.specs.Paths.{Hop, In, bad, leads}
 use Rattle.look.specs.Look.{is_nine, on_way, look_of}
@@ -31,33 +30,33 @@ pub data IsIllegal (b : ℕ) : Type 0 where
 unfoldable pub IllegalsApart : Type 0
 IllegalsApart =
     (b : ℕ) → b < 256
-    → (shape_of b ≡ Illegal → IsIllegal b)
-    × (IsIllegal b → shape_of b ≡ Illegal)
-    × (shape_of b ≡ Illegal → (program : List ℕ) (a : ℕ) → Inside program a b → decode_of program a ≡ refused 2)
-    × ((shape_of b ≡ Illegal → ⊥) → (r : Reading) × (decode_of (b ∷ replicate 8 0) 0 ≡ given r))
+    → (shape_of b ≡ None → IsIllegal b)
+    × (IsIllegal b → shape_of b ≡ None)
+    × (shape_of b ≡ None → (program : List ℕ) (a : ℕ) → Inside program a b → decode_of program a ≡ refused 2)
+    × ((shape_of b ≡ None → ⊥) → (r : Reading) × (decode_of (b ∷ replicate 8 0) 0 ≡ given r))
 
 -- rows worked by hand, one of each family at least: length, taken, pushed; a call pushes its return address, and what a function itself would
 -- take or push is no part of its code's row
 unfoldable pub ByHand : Type 0
 ByHand =
     -- halt, discard, dcopy, pcopy, swap
-    (shape_of 0x00 ≡ Row 1 0 0) × (shape_of 0x01 ≡ Row 1 1 0) × (shape_of 0x02 ≡ Row 1 3 1) × (shape_of 0x03 ≡ Row 1 3 1) × (shape_of 0x04 ≡ Row 1 2 2)
+    (shape_of 0x00 ≡ Some (row 1 0 0)) × (shape_of 0x01 ≡ Some (row 1 1 0)) × (shape_of 0x02 ≡ Some (row 1 3 1)) × (shape_of 0x03 ≡ Some (row 1 3 1)) × (shape_of 0x04 ≡ Some (row 1 2 2))
     -- call, jump, jump-if, syscall, extcall; eq, add, shr, inc
-    × (shape_of 0x05 ≡ Row 1 1 1) × (shape_of 0x06 ≡ Row 1 1 0) × (shape_of 0x07 ≡ Row 1 2 0) × (shape_of 0x09 ≡ Row 1 1 0) × (shape_of 0x0A ≡ Row 1 1 0)
-    × (shape_of 0x0B ≡ Row 1 2 1) × (shape_of 0x14 ≡ Row 1 2 1) × (shape_of 0x18 ≡ Row 1 2 1) × (shape_of 0x19 ≡ Row 1 1 1)
+    × (shape_of 0x05 ≡ Some (row 1 1 1)) × (shape_of 0x06 ≡ Some (row 1 1 0)) × (shape_of 0x07 ≡ Some (row 1 2 0)) × (shape_of 0x09 ≡ Some (row 1 1 0)) × (shape_of 0x0A ≡ Some (row 1 1 0))
+    × (shape_of 0x0B ≡ Some (row 1 2 1)) × (shape_of 0x14 ≡ Some (row 1 2 1)) × (shape_of 0x18 ≡ Some (row 1 2 1)) × (shape_of 0x19 ≡ Some (row 1 1 1))
     -- loads and stores at a, at a+b
-    × (shape_of 0x1D ≡ Row 1 1 1) × (shape_of 0x20 ≡ Row 1 2 1) × (shape_of 0x21 ≡ Row 1 2 1) × (shape_of 0x24 ≡ Row 1 3 1)
+    × (shape_of 0x1D ≡ Some (row 1 1 1)) × (shape_of 0x20 ≡ Some (row 1 2 1)) × (shape_of 0x21 ≡ Some (row 1 2 1)) × (shape_of 0x24 ≡ Some (row 1 3 1))
     -- with a number of one byte: eq, shr, loads, stores, call, jump, jump-if-not, syscall, extcall
-    × (shape_of 0x25 ≡ Row 2 1 1) × (shape_of 0x32 ≡ Row 2 1 1) × (shape_of 0x33 ≡ Row 2 0 1) × (shape_of 0x36 ≡ Row 2 1 1) × (shape_of 0x37 ≡ Row 2 1 1)
-    × (shape_of 0x3A ≡ Row 2 2 1) × (shape_of 0x3B ≡ Row 2 0 1) × (shape_of 0x3C ≡ Row 2 0 0) × (shape_of 0x3E ≡ Row 2 1 0) × (shape_of 0x3F ≡ Row 2 0 0) × (shape_of 0x40 ≡ Row 2 0 0)
+    × (shape_of 0x25 ≡ Some (row 2 1 1)) × (shape_of 0x32 ≡ Some (row 2 1 1)) × (shape_of 0x33 ≡ Some (row 2 0 1)) × (shape_of 0x36 ≡ Some (row 2 1 1)) × (shape_of 0x37 ≡ Some (row 2 1 1))
+    × (shape_of 0x3A ≡ Some (row 2 2 1)) × (shape_of 0x3B ≡ Some (row 2 0 1)) × (shape_of 0x3C ≡ Some (row 2 0 0)) × (shape_of 0x3E ≡ Some (row 2 1 0)) × (shape_of 0x3F ≡ Some (row 2 0 0)) × (shape_of 0x40 ≡ Some (row 2 0 0))
     -- with a number of two bytes: eq, load, store, call, syscall, extcall
-    × (shape_of 0x41 ≡ Row 3 1 1) × (shape_of 0x4D ≡ Row 3 0 1) × (shape_of 0x54 ≡ Row 3 2 1) × (shape_of 0x55 ≡ Row 3 0 1) × (shape_of 0x59 ≡ Row 3 0 0) × (shape_of 0x5A ≡ Row 3 0 0)
+    × (shape_of 0x41 ≡ Some (row 3 1 1)) × (shape_of 0x4D ≡ Some (row 3 0 1)) × (shape_of 0x54 ≡ Some (row 3 2 1)) × (shape_of 0x55 ≡ Some (row 3 0 1)) × (shape_of 0x59 ≡ Some (row 3 0 0)) × (shape_of 0x5A ≡ Some (row 3 0 0))
     -- pushes: of six bits; of one value, of two with the second wide, of four all wide
-    × (shape_of 0x80 ≡ Row 1 0 1) × (shape_of 0xC0 ≡ Row 2 0 1) × (shape_of 0xC9 ≡ Row 4 0 2) × (shape_of 0xFF ≡ Row 9 0 4)
+    × (shape_of 0x80 ≡ Some (row 1 0 1)) × (shape_of 0xC0 ≡ Some (row 2 0 1)) × (shape_of 0xC9 ≡ Some (row 4 0 2)) × (shape_of 0xFF ≡ Some (row 9 0 4))
 
 -- what a host may count on
 unfoldable pub SmallRows : Type 0
-SmallRows = (b l t p : ℕ) → b < 256 → shape_of b ≡ Row l t p → (1 ≤ l) × (l ≤ 9) × (t ≤ 3) × (p ≤ 4)
+SmallRows = (b l t p : ℕ) → b < 256 → shape_of b ≡ Some (row l t p) → (1 ≤ l) × (l ≤ 9) × (t ≤ 3) × (p ≤ 4)
 
 -- a shift whose second byte is over 15, which the table does not know of: the decoder's second 2
 pub record Over (program : List ℕ) (a : ℕ) : Type 0 where
@@ -76,7 +75,7 @@ pub record Decodes (program : List ℕ) (a l t p : ℕ) : Type 0 where
   pub read : Whole program a l → (r : Reading) × (decode_of program a ≡ given r) × (r.1 ≡ l) × (taken_of (op_of r.0) ≡ t) × (pushed_of (op_of r.0) ≡ p)
 
 unfoldable pub DecoderByRow : Type 0
-DecoderByRow = (program : List ℕ) (a b l t p : ℕ) → Bytes program → Inside program a b → shape_of b ≡ Row l t p → Decodes program a l t p
+DecoderByRow = (program : List ℕ) (a b l t p : ℕ) → Bytes program → Inside program a b → shape_of b ≡ Some (row l t p) → Decodes program a l t p
 
 -- step, of a running machine: faults by the row; else the operation that was read, which takes and pushes what the row says, with the next
 -- instruction behind the row's length; and the depth afterwards by the row, if it is not at fault by 6, 7 or 8
@@ -96,7 +95,7 @@ pub record Steps (program : List ℕ) (m : Machine) (l t p : ℕ) : Type 0 where
 unfoldable pub StepByRow : Type 0
 StepByRow =
     (program : List ℕ) (m : Machine) (b : ℕ) → Bytes program → Inside program m.state.address b
-    → (shape_of b ≡ Illegal → step_of program m ≡ with_fault 2 m) × ((l t p : ℕ) → shape_of b ≡ Row l t p → Steps program m l t p)
+    → (shape_of b ≡ None → step_of program m ≡ with_fault 2 m) × ((l t p : ℕ) → shape_of b ≡ Some (row l t p) → Steps program m l t p)
 
 -- verifier: refusals by the row, "then 9, 4, 5, 8"; where the way of what was read leads, with the next instruction behind the row's length; and
 -- every successor's depth by the row
@@ -111,4 +110,4 @@ pub record Looks (program : List ℕ) (cells a d l t p : ℕ) : Type 0 where
 unfoldable pub VerifierByRow : Type 0
 VerifierByRow =
     (program : List ℕ) (cells a b d : ℕ) → Bytes program → Inside program a b
-    → (shape_of b ≡ Illegal → look_of program cells a d ≡ bad 2) × ((l t p : ℕ) → shape_of b ≡ Row l t p → Looks program cells a d l t p)
+    → (shape_of b ≡ None → look_of program cells a d ≡ bad 2) × ((l t p : ℕ) → shape_of b ≡ Some (row l t p) → Looks program cells a d l t p)

@@ -17,9 +17,6 @@ span-in stride i n h =
     let b = mul-suc stride i in
     omega arith
 
-pub entry_in : (stride at i n size : ℕ) → 2 ≤ stride → i < n → at + stride * n ≤ size → at + stride * i + 2 ≤ size
-entry_in stride at i n size w h fit = let a = span-in stride i n h in omega arith
-
 -- what a comparison leaves stands within what there was: `left` entries of n, from the first or behind `first` of them
 pub left-next : (stride at n first left size : ℕ) (s : List ℕ) (sought mid next : ℕ) → first + left ≡ n → left ≤ n → at + stride * n ≤ size
     → next ≡ later_of s sought at (at + stride * first) mid → next + stride * left ≤ size

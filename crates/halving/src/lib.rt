@@ -6,6 +6,7 @@ ghost use Rattle.std.specs.Prelude.{◌≡◌, ◌+◌, ◌*◌, ◌<◌, ◌≤
 ghost use Rattle.halving.specs.Halving.{later_of, halved, narrowed, reached};
 
 // The place to go on from: `next`, where the number at `mid` is not above the one that is sought.
+// Stays: start, stride and count by themselves: a struct of them is no plainer, since each function goes on with other ones.
 fn later(s: &[u8], at: usize, next: usize, mid: usize, sought: u16) -> usize
     requires { mid + 2 ≤ length s.now }
     ensures { result ≡ later_of s.now sought at next mid }
@@ -18,19 +19,18 @@ fn later(s: &[u8], at: usize, next: usize, mid: usize, sought: u16) -> usize
 
 // The place that so many comparisons come to, among `many` entries from a place on. Called with constants, it becomes so many comparisons
 // one after the other, without a branch that the processor would have to guess.
+// Stays: no binary_search_by_key over `as_chunks`: it promises no number of comparisons, which `seven-comparisons` (guarantee/proofs/Tags) bounds for this.
 fn halve(rounds: usize, stride: usize, s: &[u8], from: usize, many: usize, sought: u16) -> usize
     requires { (2 ≤ stride) × (0 < many) × (from + stride * many ≤ length s.now) }
     ensures { result ≡ halved rounds stride s.now sought from many }
 {
     let mut at = from;
     let mut left = many;
-    let mut more = rounds;
-    while 0 < more {
+    for _ in 0..rounds {
         let half = left / 2;
         let mid = at + stride * half;
         at = later(s, at, mid, mid, sought);
         left -= half;
-        more -= 1;
     }
     at
 }

@@ -14,6 +14,7 @@ pub fn read_full<R: Read>(reader: &mut R, room: &mut [u8]) -> io::Result<usize>
     ensures whole { IfOk result (λ n. n < length room.new → IsAtEnd (R.remaining reader.new)) }
 {
     let mut done = 0;
+    // Stays: what may not change (`read_full` fills a lent room, and `consumed` says which bytes): `read_exact` fails where the input ends before, `read_to_end` takes a Vec.
     while done < room.len() {
         let n = reader.read(&mut room[done..])?;
         if n == 0 {

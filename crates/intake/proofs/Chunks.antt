@@ -6,13 +6,12 @@ use mathlib.Core.Path.{◌≡◌, refl, sym, ap, ◌∙◌}
 use mathlib.Core.Logic.{⊎_elim}
 use mathlib.Core.Bool.{Bool, true, false}
 use mathlib.Core.List.{List, [], ◌∷◌, ◌++◌}
-use lib.ListN.{length, get_or, take, drop, take-append-drop}
-use lib.Seq.{drop-drop, take-length}
+use lib.ListN.{length, take, drop, take-append-drop}
+use lib.Seq.{take-length}
 use lib.Dec.{ltb}
 use borrow.Author.Tests.{lt-ltb, le-ltb, eq-eqb, ne_eqb, ltb-true, ltb-false, leb-true}
 use Rattle.basis.specs.Pick.{pick}
 use Rattle.basis.proofs.Tests.{test, false-true}
-use Rattle.basis.proofs.Stores.{head-take}
 use Rattle.admission.specs.Numbers.{counts, damaged_of}
 use Rattle.admission.specs.Admission.{Mach, mach, counted_as, byte_of, chunk_of, short_of, admit_of}
 use Rattle.admission.specs.declared.Admission.{Admission}
@@ -24,11 +23,9 @@ pub chunk-append : (xs ys : List ℕ) (m : Mach) → chunk_of (xs ++ ys) m ≡ c
 chunk-append [] ys m = refl
 chunk-append (x ∷ xs) ys m = chunk-append xs ys (byte_of x m)
 
-pub chunk-more : (xs : List ℕ) (i k : ℕ) (m n want : Mach) → n ≡ chunk_of (take k (drop i xs)) m → chunk_of (drop i xs) m ≡ want → chunk_of (drop (i + k) xs) n ≡ want
-chunk-more xs i k m n want e p =
-    let q : chunk_of (drop i xs) m ≡ chunk_of (drop k (drop i xs)) (chunk_of (take k (drop i xs)) m) =
-    ap (λ (y : List ℕ). chunk_of y m) (sym (take-append-drop k (drop i xs))) ∙ chunk-append (take k (drop i xs)) (drop k (drop i xs)) m in
-    rw (e, ← drop-drop k i xs) (sym q ∙ p)
+pub chunk-more : (xs : List ℕ) (k : ℕ) (m n want : Mach) → n ≡ chunk_of (take k xs) m → chunk_of xs m ≡ want → chunk_of (drop k xs) n ≡ want
+chunk-more xs k m n want e p =
+    rw e (sym (chunk-append (take k xs) (drop k xs) m) ∙ ap (λ (y : List ℕ). chunk_of y m) (take-append-drop k xs) ∙ p)
 
 -- bytes that are only counted
 record Idle (st : Admission) : Type 0 where
@@ -83,14 +80,6 @@ module _ (rest : List ℕ) (m : Mach) where
   pub some-idle : (st : Admission) → 0 < length rest → idle_of m.st ≡ true → st ≡ counts (capped_at (m.st.counted + length rest)) m.st
       → mach st m.contents m.body m.map m.verdicts ≡ chunk_of (take (length rest) rest) m
   some-idle st h i e = rw (take-length rest) (ap (λ (y : Admission). mach y m.contents m.body m.map m.verdicts) e ∙ sym (idle-chunk rest m h i))
-
-  pub some_byte : (n : Mach) → 0 < length rest → n ≡ byte_of (get_or rest 0 0) m → n ≡ chunk_of (take 1 rest) m
-  some_byte n h e = e ∙ ap (λ (y : List ℕ). chunk_of y m) (head-take rest 0 h)
-
-  pub some_stored : (k : ℕ) (part contents body : List ℕ) (st : Admission) → part ≡ take k rest
-      → ((map verdicts : List ℕ) → mach st contents body map verdicts ≡ chunk_of part (mach m.st m.contents m.body map verdicts))
-      → mach st contents body m.map m.verdicts ≡ chunk_of (take k rest) m
-  some_stored k part contents body st p e = e m.map m.verdicts ∙ ap (λ (y : List ℕ). chunk_of y m) p
 
 -- a chunk, by the check that is the first to apply
 module _ (chunk : List ℕ) (m : Mach) where

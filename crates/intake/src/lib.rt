@@ -8,22 +8,21 @@ ghost use Rattle.admission.specs.Fit.{Fit};
 ghost use Rattle.intake.specs.Idle.{capped_at, idle_of};
 
 use admission::{Admission, Admitted};
+use basis::Refusal;
 
 // How many bytes were taken, and the admission after them.
-#[derive(Clone, Copy)]
+#[derive(Clone, Copy, PartialEq, Eq, Debug)]
 pub struct Taken {
     pub count: usize,
     pub admission: Admission,
 }
 
 // Whether bytes are only counted: the contents are refused, or every body has come.
+#[tactic(auto, unfolding(crate::specs::Idle::idle_of))]
 fn idle(st: Admission) -> bool
     ensures { result ≡ idle_of st }
 {
-    if st.counted < st.want {
-        return false;
-    }
-    st.programs <= st.judged
+    st.want <= st.counted && st.programs <= st.judged
 }
 
 // So many bytes are counted.
@@ -31,19 +30,12 @@ fn pass(st: Admission, n: usize) -> Admission
     ensures { result ≡ counts (capped_at (st.counted + n)) st }
 {
     let mut next = st;
-    if 24576 < st.counted {
-        next.counted = 24577;
-        return next;
-    }
-    if 24576 - st.counted < n {
-        next.counted = 24577;
-        return next;
-    }
-    next.counted = st.counted + n;
+    next.counted = st.counted.saturating_add(n).min(24577);
     next
 }
 
 // Some of the bytes that are left of a chunk come, at least one.
+// Stays: the new form is no plainer (a struct of the memory is taken apart for `plain`, `take_byte` and `store`, and put together again).
 fn take_some(
     st: Admission,
     rest: &[u8],
@@ -81,6 +73,7 @@ fn take_some(
 }
 
 // The bytes of a chunk come.
+// Stays: six things by themselves, as `settling::settle` says.
 fn take_chunk(
     st: Admission,
     chunk: &[u8],
@@ -93,11 +86,11 @@ fn take_chunk(
     ensures { mach result contents.new body.new map.new verdicts.new ≡ chunk_of chunk.now (mach st contents.old body.old map.old verdicts.old) }
 {
     let mut now = st;
-    let mut i = 0;
-    while i < chunk.len() {
-        let taken = take_some(now, &chunk[i..], contents, body, map, verdicts);
+    let mut rest = chunk;
+    while !rest.is_empty() {
+        let taken = take_some(now, rest, contents, body, map, verdicts);
         now = taken.admission;
-        i += taken.count;
+        rest = &rest[taken.count..];
     }
     now
 }
@@ -107,19 +100,12 @@ fn take_chunk(
 fn short(contents: &[u8], body: &[u8], map: &[u16], verdicts: &[u16]) -> bool
     ensures { result ≡ short_of contents.now body.now map.now verdicts.now }
 {
-    if contents.len() < 514 {
-        return true;
-    }
-    if body.len() < 16384 {
-        return true;
-    }
-    if map.len() < 16384 {
-        return true;
-    }
-    verdicts.len() < 192
+    contents.len() < 514 || body.len() < 16384 || map.len() < 16384 || verdicts.len() < 192
 }
 
 // A chunk comes. A refusal changes nothing: 90 for memory that is too short, 91 for numbers that no admission has, 37 after the close.
+// Stays: six things by themselves, as `settling::settle` says; and the two tests of `close`: a function for both would answer what each turns into an Admitted again.
+#[tactic(auto, unfolding(admission::specs::Admission::admit_of))]
 pub fn chunk(
     st: Admission,
     chunk: &[u8],
@@ -132,19 +118,19 @@ pub fn chunk(
 {
     if short(contents, body, map, verdicts) {
         return Admitted {
-            refusal: 90,
+            refusal: usize::from(Refusal::ShortMemory),
             admission: st,
         };
     }
     if admission::damaged(st) {
         return Admitted {
-            refusal: 91,
+            refusal: usize::from(Refusal::Damaged),
             admission: st,
         };
     }
     if st.closed != 0 {
         return Admitted {
-            refusal: 37,
+            refusal: usize::from(Refusal::Closed),
             admission: st,
         };
     }

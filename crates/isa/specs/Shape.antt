@@ -8,8 +8,6 @@ use Rattle.isa.specs.declared.Route.{Route}
 use Rattle.isa.specs.declared.Route.TheVariants as route
 use Rattle.isa.specs.declared.Way.{Way}
 use Rattle.isa.specs.declared.Way.TheVariants.{Stop, Next, Jump, Branch, Call, Taken, System, Extension}
-use Rattle.isa.specs.declared.Stack.{Stack}
-use Rattle.isa.specs.declared.Stack.TheVariants as stack
 
 -- what a route takes besides its target: the condition of a branch
 abbrev pub route_taken : Route → ℕ
@@ -105,8 +103,3 @@ depth_after cells depth taken pushed =
     pick (ltb depth taken) (refused 4)
     (pick (ltb cells (depth - taken + pushed)) (refused 5)
     (given (depth - taken + pushed)))
-
--- the code's answer as 01 gives it
-abbrev pub stack_answer : Stack → Answer ℕ
-stack_answer (stack.Depth d) = given d
-stack_answer (stack.Refused n) = refused n

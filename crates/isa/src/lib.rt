@@ -2,8 +2,12 @@
 #![tactic(auto)]
 
 ghost use Rattle.std.specs.Prelude.{◌≡◌};
-ghost use Rattle.isa.specs.Shape.{depth_after, stack_answer};
+ghost use Rattle.basis.specs.Refusal.{answer_of};
+ghost use Rattle.isa.specs.Shape.{depth_after};
 
+use basis::Refusal;
+
+// Stays: v0 to v3 and no array, by the C interface (KhxInstruction), which has their names; decoder, encoder and operands go through them one by one.
 // An instruction as a value. What the form lacks is 0. Bit i of the flags is set where value i has two bytes.
 #[derive(Clone, Copy)]
 pub struct Instruction {
@@ -43,26 +47,25 @@ pub enum Way {
     Extension(u16),
 }
 
-// What the stack check finds: the depth afterwards, or a refusal's number.
-#[derive(Clone, Copy)]
-pub enum Stack {
-    Depth(usize),
-    Refused(usize),
-}
-
 // The stack check: the depth after `taken` values were taken and `pushed` pushed.
-pub fn depth_after(cells: usize, depth: usize, taken: usize, pushed: usize) -> Stack
-    ensures { stack_answer result ≡ depth_after cells depth taken pushed }
+#[tactic(auto, unfolding(crate::specs::Shape::depth_after))]
+pub fn depth_after(
+    cells: usize,
+    depth: usize,
+    taken: usize,
+    pushed: usize,
+) -> Result<usize, Refusal>
+    ensures { answer_of result ≡ depth_after cells depth taken pushed }
 {
     if depth < taken {
-        return Stack::Refused(4);
+        return Err(Refusal::TooFew);
     }
     let left = depth - taken;
     if cells < left {
-        return Stack::Refused(5);
+        return Err(Refusal::TooMany);
     }
     if cells - left < pushed {
-        return Stack::Refused(5);
+        return Err(Refusal::TooMany);
     }
-    Stack::Depth(left + pushed)
+    Ok(left + pushed)
 }

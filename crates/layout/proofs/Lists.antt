@@ -5,16 +5,20 @@ use native.Mathlib.Omega.{arith}
 use native.Mathlib.Numerals.{add-one}
 use mathlib.Core.Path.{◌≡◌, refl, sym, ap, ◌∙◌}
 use mathlib.Core.Bool.{true}
+use mathlib.Core.Logic.{◌≢◌}
 use mathlib.Core.List.{List, [], ◌∷◌}
 use lib.Dec.{leb, eqb}
-use lib.ListN.{length, get_or, drop, drop_of_length-le}
+use lib.ListN.{length, get_or, drop}
 use lib.Seq.{drop-cons}
 use borrow.Author.Tests.{le-leb, eq-eqb, ne_eqb, leb-true, eqb-true}
 use Rattle.basis.specs.Pick.{both}
 use Rattle.basis.specs.Answer.{Answer, given, refused}
 use Rattle.basis.proofs.Tests.{both_left, both_right}
+use Rattle.basis.specs.Refusal.{number_of}
+use Rattle.basis.specs.declared.refusal.Refusal.{Refusal}
 use Rattle.pack.specs.Contents.{refusal_of, end_of}
-use Rattle.pack.proofs.Walks.{next}
+use Rattle.pack.specs.declared.Entry.{Entry}
+use Rattle.pack.proofs.Walks.{named, next}
 use Rattle.layout.specs.Layout.{entry_of, laid, sum_of, alike}
 
 -- lists that can be the entries of a pack
@@ -37,9 +41,6 @@ alike-shown tags cells lengths h =
 
 pub alike-back : (tags cells lengths : List ℕ) → Alike tags cells lengths → alike tags cells lengths ≡ true
 alike-back tags cells lengths g = rw (le-leb _ _ g.count, eq-eqb _ _ g.cells-like, eq-eqb _ _ g.lengths-like)
-
-pub laid_none : (at i : ℕ) (tags cells lengths : List ℕ) → length tags ≤ i → laid at (drop i tags) (drop i cells) (drop i lengths) ≡ []
-laid_none at i tags cells lengths h = rw (drop_of_length-le tags h)
 
 pub length-laid : (at : ℕ) (tags cells lengths : List ℕ) → length cells ≡ length tags → length lengths ≡ length tags → length (laid at tags cells lengths) ≡ length tags
 length-laid at [] cells lengths p q = refl
@@ -75,15 +76,19 @@ module _ (tags cells lengths : List ℕ) (g : Alike tags cells lengths) (i : ℕ
   pub sum-next : sum_of (drop i lengths) ≡ get_or lengths i 0 + sum_of (drop (i + 1) lengths)
   sum-next = let q : i < length lengths = omega (arith, g.lengths-like) in rw (drop-cons lengths i 0 q, add-one i)
 
-  -- the entry's refusal is in a local, and what the whole walk answers is known
-  module _ (least end refusal : ℕ) (want : Answer ℕ) (told : refusal ≡ refusal_of least 0 (entry_of (get_or tags i 0) (get_or cells i 0) 0 (get_or lengths i 0)))
+  -- the entry is judged as one at 0, and what the whole walk answers is known
+  module _ (least end : ℕ) (e : Entry) (want : Answer ℕ) (same : e ≡ entry_of (get_or tags i 0) (get_or cells i 0) 0 (get_or lengths i 0))
       (whole : end_of least end (laid end (drop i tags) (drop i cells) (drop i lengths)) ≡ want) where
-    here : refusal_of least end (entry_of (get_or tags i 0) (get_or cells i 0) end (get_or lengths i 0)) ≡ refusal
-    here = refusal-laid least (get_or tags i 0) (get_or cells i 0) end (get_or lengths i 0) ∙ sym told
+    here : refusal_of least end (entry_of (get_or tags i 0) (get_or cells i 0) end (get_or lengths i 0)) ≡ refusal_of least 0 e
+    here = refusal-laid least (get_or tags i 0) (get_or cells i 0) end (get_or lengths i 0) ∙ rw same
 
-    pub lists-refused : (refusal ≡ 0 → ⊥) → refused refusal ≡ want
-    lists-refused n = rw (laid_next end, here, ne_eqb refusal 0 n) at whole
+    pub lists-refused : (why : Refusal) → number_of why ≡ refusal_of least 0 e → refused (number_of why) ≡ want
+    lists-refused why told =
+        let z : refusal_of least 0 e ≢ 0 = λ z. named why (told ∙ z) in
+        rw (laid_next end, here, ne_eqb (refusal_of least 0 e) 0 z, ← told) at whole
 
-    pub lists-next : refusal ≡ 0
-        → end_of (get_or tags i 0 + 1) (end + get_or lengths i 0) (laid (end + get_or lengths i 0) (drop (i + 1) tags) (drop (i + 1) cells) (drop (i + 1) lengths)) ≡ want
-    lists-next z = rw (laid_next end, here, eq-eqb refusal 0 z) at whole
+    pub lists-next : 0 ≡ refusal_of least 0 e
+        → end_of (e.tag + 1) (end + e.length) (laid (end + e.length) (drop (i + 1) tags) (drop (i + 1) cells) (drop (i + 1) lengths)) ≡ want
+    lists-next told =
+        let x = rw (laid_next end, here, eq-eqb (refusal_of least 0 e) 0 (sym told)) at whole in
+        rw same x

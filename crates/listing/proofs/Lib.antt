@@ -1,3 +1,2 @@
 -- The laws of `listing`.
 pub mod Listings
-pub mod Answers

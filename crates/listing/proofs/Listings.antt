@@ -3,22 +3,21 @@
 use Prim.Native.Nat.{ℕ, zero, suc, ◌+◌, ◌-◌, ◌≤◌, ◌<◌}
 use native.Mathlib.Omega.{arith}
 use native.Mathlib.Nat.{add-zero, add-suc, suc-add}
-use mathlib.Core.Path.{◌≡◌, refl, sym, ◌∙◌}
+use mathlib.Core.Path.{◌≡◌, refl, ◌∙◌}
 use mathlib.Core.List.{List, [], ◌∷◌, ◌++◌}
-use lib.ListN.{length, get_or, drop, length-drop}
-use lib.Seq.{sets, drop-cons, drop-length, drop-drop}
+use lib.ListN.{length, get_or, drop, length-drop, drop_of_length-le}
+use lib.Seq.{drop-cons, drop-drop}
 use borrow.Author.Tests.{le-ltb, lt-leb}
+use Rattle.std.specs.Prelude.{Result}
 use Rattle.basis.specs.Answer.{Answer, given, refused}
-use Rattle.basis.proofs.Stores.{sets-append}
+use Rattle.basis.specs.Refusal.{answer_of}
+use Rattle.basis.specs.declared.refusal.Refusal.{Refusal}
 use Rattle.decoder.specs.Decode.{Reading, head_of, decode_of}
 use Rattle.decoder.proofs.Lengths.{head-length}
-use Rattle.text.specs.Put.{Put}
 use Rattle.lines.specs.Line.{step_of, line_of}
 use Rattle.listing.specs.Listing.{lines_of}
-
--- what is left to write over the room now is what all of it writes over the room at the start
-pub lines-put : (xs line rest room after all : List ℕ) (at next : ℕ) → Put line room at after next → xs ≡ line ++ rest → sets room at xs ≡ all → sets after next rest ≡ all
-lines-put xs line rest room after all at next p e f = rw (p.room, p.next) (sym (sets-append line room rest at) ∙ (rw e at f))
+use Rattle.listing.specs.Walk.{left}
+use Rattle.listing.specs.declared.walk.Walk.{Walk}
 
 -- bytes of the line before
 pub lines-past : (m at : ℕ) (s : List ℕ) → lines_of m at s ≡ lines_of 0 (at + m) (drop m s)
@@ -59,6 +58,14 @@ lines_step p at h g =
     lines-first at (get_or p at 0) (drop at p) (drop (suc at) p) (drop-cons p at 0 g)
     ∙ rw (← decode-head p at h g, lines-past (step_of (decode_of p at) - 1), drop-drop, k)
 
-pub lines_end : (p : List ℕ) (at : ℕ) → at ≡ length p → lines_of 0 at (drop at p) ≡ []
+-- a walk at an address of its program, with the decoder's answer there and the bytes that its line is about
+module _ (w : Walk) (a : Result Reading Refusal) (n : ℕ) (g : w.at < length w.program.now) (d : answer_of a ≡ decode_of w.program.now w.at) (e : n ≡ step_of (answer_of a)) where
+  pub step-inside : (1 ≤ n) × (w.at + n ≤ length w.program.now)
+  step-inside = rw (e, d) (step_fits w.program.now w.at w.within g)
+
+  pub left-first : left w ≡ line_of w.at (answer_of a) (get_or w.program.now w.at 0) ++ lines_of 0 (w.at + n) (drop (w.at + n) w.program.now)
+  left-first = rw (e, d) (lines_step w.program.now w.at w.within g)
+
+pub left-none : (w : Walk) → length w.program.now ≤ w.at → left w ≡ []
 unfolding lines_of
-lines_end p at e = rw (e, drop-length)
+left-none w h = let e = drop_of_length-le w.program.now h in rw e

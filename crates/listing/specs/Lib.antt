@@ -1,2 +1,3 @@
 -- The definitions of `listing`.
 pub mod Listing
+pub mod Walk

@@ -1,12 +1,10 @@
 -- What the listing of a program is, and what listing it into a room answers.
 use Rattle.std.specs.Prelude.{ℕ, zero, suc, ◌-◌, List, [], ◌∷◌, ◌++◌, length, ltb}
 use Rattle.basis.specs.Pick.{pick}
-use Rattle.basis.specs.Answer.{Answer, given, refused}
+use Rattle.basis.specs.Answer.{Answer, refused}
 use Rattle.basis.specs.Room.{fitted}
 use Rattle.decoder.specs.Decode.{head_of}
 use Rattle.lines.specs.Line.{step_of, line_of}
-use Rattle.listing.specs.declared.Listed.{Listed}
-use Rattle.listing.specs.declared.Listed.TheVariants.{Written, Refused}
 
 -- the lines of the bytes from an address on, of which the first `past` belong to the line before
 unfoldable pub lines_of : ℕ → ℕ → List ℕ → List ℕ
@@ -21,8 +19,3 @@ listing_of program = lines_of 0 0 program
 -- what is written into a room of n bytes: "Checks: 20, 25"
 unfoldable pub list_of : List ℕ → ℕ → Answer (List ℕ)
 list_of program n = pick (ltb 16384 (length program)) (refused 20) (fitted n (listing_of program))
-
--- the code's answer as 01 gives it: the length
-abbrev pub listed_answer : Listed → Answer ℕ
-listed_answer (Written n) = given n
-listed_answer (Refused n) = refused n

@@ -3,66 +3,65 @@
 
 ghost use Rattle.std.specs.Prelude.{◌≡◌, ◌≤◌, length};
 ghost use Rattle.std.proofs.lemmas.List.Edits.{sets};
+ghost use Rattle.basis.specs.Refusal.{answer_of};
 ghost use Rattle.basis.specs.Answer.{seen};
 ghost use Rattle.basis.specs.Room.{room_after};
-ghost use Rattle.shapes.specs.Shapes.{shape_rows};
-ghost use Rattle.names.specs.Rows.{name_rows};
-ghost use Rattle.listing.specs.Listing.{listing_of, list_of, listed_answer};
+ghost use Rattle.listing.specs.Listing.{list_of};
+ghost use Rattle.listing.specs.Walk.{left};
 
-use decoder::decode_by;
-use lines::{line_length, put_line, step_of};
+mod walk;
 
-// What became of a listing: the bytes written, or a refusal's number.
-#[derive(Clone, Copy)]
-pub enum Listed {
-    Written(usize),
-    Refused(usize),
-}
+use basis::Refusal;
+use lines::{line_length, put_line};
+use names::Names;
+use shapes::Shapes;
+use text::Pen;
+use walk::Walk;
 
-// The length of the listing of a program; the rows are the table of shapes, the names that of names.
-fn listing_length(rows: &[u8], names: &[u8], program: &[u8]) -> usize
-    requires { (names.now ≡ name_rows) × (length program.now ≤ 16384) × (rows.now ≡ shape_rows) }
-    ensures { result ≡ length (listing_of program.now) }
+// The length of the lines of a walk.
+fn lines_length(names: Names, walk: Walk) -> usize
+    ensures { result ≡ length (left walk.entry) }
 {
     let mut n = 0;
-    let mut at = 0;
-    while at < program.len() {
-        let d = decode_by(rows, program, at);
-        n += line_length(names, d);
-        at += step_of(d);
+    for place in walk {
+        n += line_length(names, &place.answer);
     }
     n
 }
 
-// Puts the listing of a program at the start of a room that has place for it.
-fn put_lines(rows: &[u8], names: &[u8], program: &[u8], room: &mut [u8])
-    requires { (names.now ≡ name_rows) × (length program.now ≤ 16384) × (length (listing_of program.now) ≤ length room.old) × (rows.now ≡ shape_rows) }
-    ensures { room.new ≡ sets room.old 0 (listing_of program.now) }
+// Puts the lines of a walk at the start of a room that has place for them.
+fn put_lines(names: Names, walk: Walk, room: &mut [u8])
+    requires { length (left walk) ≤ length room.old }
+    ensures { room.new ≡ sets room.old 0 (left walk.entry) }
 {
-    let mut next = 0;
-    let mut at = 0;
-    while at < program.len() {
-        let d = decode_by(rows, program, at);
-        let byte = program[at];
-        next = put_line(names, at as u16, d, byte, room, next);
-        at += step_of(d);
+    let mut pen = Pen { room, at: 0 };
+    for place in walk {
+        put_line(names, place.address, &place.answer, place.byte, &mut pen);
     }
 }
 
 // Writes the listing of a program at the start of a room, or refuses and leaves the room as it was.
-pub fn list(program: &[u8], room: &mut [u8]) -> Listed
-    ensures result_value { listed_answer result ≡ seen length (list_of program.now (length room.old)) }
+#[tactic(auto, using(basis::proofs::Stores::starts), unfolding(crate::specs::Listing::list_of))]
+pub fn list(program: &[u8], room: &mut [u8]) -> Result<usize, Refusal>
+    ensures result_value { answer_of result ≡ seen length (list_of program.now (length room.old)) }
     ensures room_after { room.new ≡ room_after (list_of program.now (length room.old)) room.old }
 {
     if 16384 < program.len() {
-        return Listed::Refused(20);
+        return Err(Refusal::LongProgram);
     }
     let rows = shapes::rows();
-    let names = names::rows();
-    let n = listing_length(&rows, &names, program);
+    let shapes = Shapes { rows: &rows };
+    let rows = names::rows();
+    let names = Names { rows: &rows };
+    let walk = Walk {
+        shapes,
+        program,
+        at: 0,
+    };
+    let n = lines_length(names, walk);
     if room.len() < n {
-        return Listed::Refused(25);
+        return Err(Refusal::ShortRoom);
     }
-    put_lines(&rows, &names, program, room);
-    Listed::Written(n)
+    put_lines(names, walk, room);
+    Ok(n)
 }

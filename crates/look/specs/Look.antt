@@ -1,15 +1,17 @@
 -- What an instruction leads to at a depth: decode, stack check and way, as in a step.
-use Rattle.std.specs.Prelude.{ℕ, ◌+◌, Bool, true, false, List, [], ◌∷◌, eqb}
+use Rattle.std.specs.Prelude.{ℕ, ◌+◌, Bool, true, false, List, [], ◌∷◌, eqb, Result, Ok, Err}
 use Rattle.basis.specs.Pick.{pick}
 use Rattle.basis.specs.Answer.{Answer, given, refused}
+use Rattle.basis.specs.Refusal.{number_of}
+use Rattle.basis.specs.declared.refusal.Refusal.{Refusal}
 use Rattle.isa.specs.Op.{Op, op_of}
 use Rattle.isa.specs.Shape.{taken_of, pushed_of, way_of, depth_after}
 use Rattle.decoder.specs.Decode.{Reading, decode_of}
 use Rattle.isa.specs.declared.Way.{Way}
 use Rattle.isa.specs.declared.Way.TheVariants.{Stop, Next, Jump, Branch, Call, Taken, System, Extension}
-use Rattle.paths.specs.Paths.{hop, Outcome, bad, leads}
+use Rattle.paths.specs.Paths.{Hop, hop, Outcome, bad, leads}
 use Rattle.look.specs.declared.Look.{Look}
-use Rattle.look.specs.declared.Look.TheVariants.{Bad, Nowhere, One, Two}
+use Rattle.look.specs.declared.Look.TheVariants.{Nowhere, One, Two}
 
 -- 4 and 5 behind it, at the depth e: "to the next instruction, to its target, or to both; halt and function 0 lead
 -- nowhere"; 8 for any other function
@@ -54,9 +56,16 @@ on_reading cells a d (given r) = look_at cells (a + r.1) d (op_of r.0)
 unfoldable pub look_of : List ℕ → ℕ → ℕ → ℕ → Outcome
 look_of program cells a d = on_reading cells a d (decode_of program a)
 
--- the code's answer as successors, next instruction first
-abbrev pub outcome_in : Look → Outcome
-outcome_in (Bad k) = bad k
-outcome_in Nowhere = leads []
-outcome_in (One b e) = leads (hop b e ∷ [])
-outcome_in (Two b x e) = leads (hop b e ∷ hop x e ∷ [])
+-- the code's successors, next instruction first
+abbrev pub hops_in : Look → List Hop
+hops_in Nowhere = []
+hops_in (One b e) = hop b e ∷ []
+hops_in (Two b x e) = hop b e ∷ hop x e ∷ []
+
+-- the code's answer as an outcome, by the numbers of its errors
+abbrev pub outcome_by : {E : Type 0} → (E → ℕ) → Result Look E → Outcome
+outcome_by number (Ok l) = leads (hops_in l)
+outcome_by number (Err why) = bad (number why)
+
+abbrev pub outcome_in : Result Look Refusal → Outcome
+outcome_in r = outcome_by number_of r

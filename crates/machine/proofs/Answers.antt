@@ -2,16 +2,20 @@
 -- Assumes nothing.
 use Prim.Native.Nat.{ℕ}
 use native.Mathlib.Omega.{arith}
-use mathlib.Core.Path.{◌≡◌, refl, ap}
+use mathlib.Core.Path.{◌≡◌, refl, ap, ap₂}
 use mathlib.Core.Logic.{◌⊎◌, inl, inr}
 use mathlib.Core.Bool.{Bool, true, false}
 use mathlib.Core.List.{List}
 use lib.ListN.{length}
 use lib.Dec.{ltb}
 use borrow.Author.Tests.{lt-ltb, le-ltb, ltb-true, ltb-false}
+use Rattle.std.specs.Prelude.{Result, Ok, Err}
+use Rattle.basis.specs.Refusal.{number_of}
+use Rattle.basis.specs.declared.refusal.Refusal.{Refusal}
+use Rattle.basis.proofs.Refusals.{number-one}
 use Rattle.machine.specs.declared.State.{State}
 use Rattle.machine.specs.declared.Ran.{Ran}
-use Rattle.machine.specs.declared.Ran.TheVariants.{Came, Refused}
+use Rattle.machine.specs.declared.Unrun.{Unrun}
 use Rattle.machine.specs.Machine.{Machine, machine}
 use Rattle.machine.specs.Run.{refused, run_of, outcome_of, ran_outcome}
 use Rattle.machine.specs.Refusals.{Over, program_over, data_over, cells_over, too_deep, Allowed}
@@ -45,18 +49,16 @@ machine-one : (s s' : State) (d d' c c' : List ℕ) → machine s d c ≡ machin
 machine-one s s' d d' c c' e = (ap (λ (m : Machine). m.state) e, ap (λ (m : Machine). m.mem) e, ap (λ (m : Machine). m.cells) e)
 
 -- the answer, the data and the cells are one
-pub ran-one : (a b : Ran) (d d' c c' : List ℕ) → ran_outcome a d c ≡ ran_outcome b d' c' → (a ≡ b) × (d ≡ d') × (c ≡ c')
-ran-one (Came s k) (Came s' k') d d' c c' e =
-    let m : machine s d c ≡ machine s' d' c' = cc in
-    let n : k ≡ k' = cc in
-    let q = machine-one s s' d d' c c' m in
-    let a = q.0 in
-    (cc, q.1, q.2)
-ran-one (Came s k) (Refused n s') d d' c c' e = absurd (let z : ◌≡◌ {A = ℕ} 0 1 = cc in omega arith)
-ran-one (Refused n s) (Came s' k') d d' c c' e = absurd (let z : ◌≡◌ {A = ℕ} 0 1 = cc in omega arith)
-ran-one (Refused n s) (Refused n' s') d d' c c' e =
-    let m : machine s d c ≡ machine s' d' c' = cc in
-    let i : n ≡ n' = cc in
-    let q = machine-one s s' d d' c c' m in
-    let a = q.0 in
-    (cc, q.1, q.2)
+pub ran-one : (a b : Result Ran Unrun) (d d' c c' : List ℕ) → ran_outcome a d c ≡ ran_outcome b d' c' → (a ≡ b) × (d ≡ d') × (c ≡ c')
+ran-one (Ok r) (Ok r') d d' c c' e =
+    let m : machine r.state d c ≡ machine r'.state d' c' = cc in
+    let n : r.steps ≡ r'.steps = cc in
+    let q = machine-one r.state r'.state d d' c c' m in
+    (ap₂ (λ (s : State) (k : ℕ). Ok (record { state = s; steps = k })) q.0 n, q.1, q.2)
+ran-one (Ok r) (Err u) d d' c c' e = absurd (let z : ◌≡◌ {A = ℕ} 0 1 = cc in omega arith)
+ran-one (Err u) (Ok r) d d' c c' e = absurd (let z : ◌≡◌ {A = ℕ} 0 1 = cc in omega arith)
+ran-one (Err u) (Err u') d d' c c' e =
+    let m : machine u.state d c ≡ machine u'.state d' c' = cc in
+    let i : number_of u.refusal ≡ number_of u'.refusal = cc in
+    let q = machine-one u.state u'.state d d' c c' m in
+    (ap₂ (λ (w : Refusal) (s : State). Err (record { refusal = w; state = s })) (number-one u.refusal u'.refusal i) q.0, q.1, q.2)

@@ -6,11 +6,13 @@ use mathlib.Core.Path.{◌≡◌, refl, sym, ap, ◌∙◌}
 use mathlib.Core.Bool.{true, false}
 use mathlib.Core.List.{List}
 use lib.ListN.{length}
+use Rattle.basis.specs.Answer.{Answer, given, refused}
 use Rattle.effects.specs.Act.{act_of}
 use Rattle.effects.specs.declared.Move.{Move}
-use Rattle.effects.specs.declared.Move.TheVariants.{To, Halt, Fault}
+use Rattle.effects.specs.declared.Move.TheVariants.{To, Halt}
 use Rattle.effects.proofs.Keeps.{depth_in, act-deep}
 use Rattle.machine.specs.declared.State.{State}
+use Rattle.machine.specs.declared.Status.{Status}
 use Rattle.machine.specs.declared.Status.TheVariants.{Running, Halted, Faulted}
 use Rattle.machine.specs.Machine.{Machine, state_after, step_of}
 use Rattle.machine.specs.Run.{came, is_running, is_faulted, run_of}
@@ -22,10 +24,10 @@ pub record Sound (m m' : Machine) : Type 0 where
   pub same_cells : length m'.cells ≡ length m.cells
   pub deep : m'.state.depth ≤ length m'.cells
 
-after-deep : (s : State) (made : Move) (n : ℕ) → s.depth ≤ n → depth_in made ≤ n → (state_after s made).depth ≤ n
-after-deep s (To a d) n h k = k
-after-deep s (Halt z d) n h k = k
-after-deep s (Fault z d) n h k = h
+after-deep : (s : State) (made : Answer Move) (n : ℕ) → s.depth ≤ n → depth_in made ≤ n → (state_after s made).depth ≤ n
+after-deep s (given (To a d)) n h k = k
+after-deep s (given (Halt d)) n h k = k
+after-deep s (refused z) n h k = h
 
 pub step-sound : (program : List ℕ) (m : Machine) → m.state.depth ≤ length m.cells → Sound m (step_of program m)
 unfolding step_of
@@ -39,7 +41,7 @@ step-sound program m h =
       deep = rw l (after-deep m.state a.move (length m.cells) h k.depth-within);
     }
 
--- the run from here is the whole run
+-- the run from here, so many steps being left, is the whole run
 pub record Under (program : List ℕ) (budget : ℕ) (start m : Machine) (left : ℕ) : Type 0 where
   pub same_mem : length m.mem ≡ length start.mem
   pub same_cells : length m.cells ≡ length start.cells
@@ -51,7 +53,7 @@ pub record Under (program : List ℕ) (budget : ℕ) (start m : Machine) (left :
 running : (m : Machine) → m.state.status ≡ Running → is_running m.state.status ≡ true
 running m e = ap is_running e
 
-module _ (program : List ℕ) (budget : ℕ) (start m m' : Machine) (left : ℕ) (u : Under program budget start m left) (l : 0 < left) (e : m' ≡ step_of program m) where
+module _ {program : List ℕ} {budget : ℕ} {start m m' : Machine} {left : ℕ} (u : Under program budget start m left) (l : 0 < left) (e : m' ≡ step_of program m) where
   sound : Sound m m'
   sound = rw e (step-sound program m u.deep)
 
@@ -90,17 +92,16 @@ module _ (program : List ℕ) (budget : ℕ) (start m m' : Machine) (left : ℕ)
       rw e (sym (run-faults program m (budget - left) left (left - 1) falls (running m u.on) g) ∙ u.whole)
 
 -- the budget is used
-pub used : (program : List ℕ) (budget : ℕ) (start m : Machine) (left : ℕ) → Under program budget start m left → left ≤ 0 → came m (budget - left) ≡ run_of budget program start 0
-used program budget start m left u l = sym (run-used program m (budget - left) left (omega arith)) ∙ u.whole
+pub used : {program : List ℕ} {budget : ℕ} {start m : Machine} {left : ℕ} → Under program budget start m left → left ≤ 0 → came m budget ≡ run_of budget program start 0
+used {program} {budget} {start} {m} {left} u e =
+    let k : budget ≡ budget - left = omega arith in
+    ap (λ (n : ℕ). came m n) k ∙ sym (run-used program m (budget - left) left (omega arith)) ∙ u.whole
 
--- as the loop begins
-pub begun : (program : List ℕ) (budget : ℕ) (start : Machine) → start.state.depth ≤ length start.cells → start.state.status ≡ Running → Under program budget start start budget
-begun program budget start h r =
-    let z : budget - budget ≡ 0 = omega arith in
-    record { same_mem = refl; same_cells = refl; deep = h; within = omega arith; on = r; whole = ap (λ (k : ℕ). run_of budget program start k) z }
-
--- a stopped state comes back as it was, and the whole budget with it
-pub rested : (program : List ℕ) (budget : ℕ) (start : Machine) → is_running start.state.status ≡ false → came start (budget - budget) ≡ run_of budget program start 0
-rested program budget start h =
-    let z : budget - budget ≡ 0 = omega arith in
-    ap (λ (k : ℕ). came start k) z ∙ sym (run-stopped program start 0 budget h)
+-- a stopped state comes back as it was
+pub rested : (program : List ℕ) (budget : ℕ) (start : Machine) → (start.state.status ≡ Running → ⊥) → came start 0 ≡ run_of budget program start 0
+rested program budget start h = sym (run-stopped program start 0 budget (by start.state.status h))
+  where
+    by : (s : Status) → (s ≡ Running → ⊥) → is_running s ≡ false
+    by Running n = absurd (n refl)
+    by Halted n = refl
+    by (Faulted k) n = refl

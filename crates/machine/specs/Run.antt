@@ -1,11 +1,12 @@
 -- The run: its step, iterated within a budget, and what the public run answers.
-use Rattle.std.specs.Prelude.{ℕ, zero, suc, ◌+◌, Bool, true, false, List, length, ltb}
+use Rattle.std.specs.Prelude.{ℕ, zero, suc, ◌+◌, Bool, true, false, List, length, ltb, Result, Ok, Err}
 use Rattle.basis.specs.Pick.{pick}
+use Rattle.basis.specs.Refusal.{number_of}
 use Rattle.machine.specs.Machine.{Machine, machine, step_of}
 use Rattle.machine.specs.declared.Status.{Status}
 use Rattle.machine.specs.declared.Status.TheVariants.{Running, Halted, Faulted}
 use Rattle.machine.specs.declared.Ran.{Ran}
-use Rattle.machine.specs.declared.Ran.TheVariants.{Came, Refused}
+use Rattle.machine.specs.declared.Unrun.{Unrun}
 
 -- the machine afterwards and the steps taken; or a refusal's number, and the machine as it was
 pub data Outcome : Type 0 where
@@ -41,6 +42,6 @@ outcome_of budget program m =
     (run_of budget program m 0))))
 
 -- the code's answer, with the data and the cells as they are then, as 01 gives it
-abbrev pub ran_outcome : Ran → List ℕ → List ℕ → Outcome
-ran_outcome (Came s k) mem cells = came (machine s mem cells) k
-ran_outcome (Refused n s) mem cells = refused n (machine s mem cells)
+abbrev pub ran_outcome : Result Ran Unrun → List ℕ → List ℕ → Outcome
+ran_outcome (Ok r) mem cells = came (machine r.state mem cells) r.steps
+ran_outcome (Err u) mem cells = refused (number_of u.refusal) (machine u.state mem cells)

@@ -9,16 +9,16 @@ use lib.Dec.{eqb}
 use lib.ListN.{length, get_or, set, length-set}
 use lib.Seq.{get_or-set_same, get_or-set_other}
 use borrow.Author.Tests.{lt-ltb, le-ltb, eq-eqb, ne_eqb}
+use Rattle.std.specs.Prelude.{Option, Some, None, Result, Ok, Err}
 use Rattle.basis.specs.Pick.{pick}
+use Rattle.basis.specs.declared.refusal.Refusal.{Refusal}
 use Rattle.basis.proofs.Tests.{same?}
 use Rattle.paths.specs.Paths.{Hop, hop}
 use Rattle.paths.specs.Walk.{Mark, unmet, due, examined, Meeting, kept, broke, meet_at, meet, on_meeting, meets, turned, cell_of}
 use Rattle.paths.proofs.Marks.{at-is, at-inside}
-use Rattle.pending.specs.Sets.{held, member, Joined}
+use Rattle.pending.specs.Sets.{held, member, Joined, Beside}
 use Rattle.meeting.specs.Clash.{two_depths}
 use Rattle.meeting.specs.Stands.{Small, Maps, due_in, Stands, Went, Turned}
-use Rattle.meeting.specs.declared.Examined.{Examined}
-use Rattle.meeting.specs.declared.Examined.TheVariants.{On, Stop}
 
 -- a depth in range is no 65,535
 module _ {depths : List ℕ} {marks : List Mark} (m : Maps depths marks) (b : ℕ) (i : b < length depths) where
@@ -82,9 +82,6 @@ kept-one ms later e = cc
 broke-kept : (k : ℕ) (ms : List Mark) → broke k ≡ kept ms → ⊥
 broke-kept k ms e = let z : ◌≡◌ {A = ℕ} 0 1 = cc in omega arith
 
-broke-one : (k j : ℕ) → broke k ≡ broke j → k ≡ j
-broke-one k j e = cc
-
 module _ (marks : List Mark) (b e : ℕ) where
   pub one-met : (r : Meeting) → meet two_depths marks b e ≡ r → meets two_depths marks (hop b e ∷ []) ≡ r
   unfolding meets
@@ -108,10 +105,10 @@ module _ (marks : List Mark) (b e : ℕ) where
       by (broke j) w = w
 
 -- what the set says of one address
-pub member-beside : (words : List ℕ) (beside b : ℕ) → b ≡ beside → member words beside b ≡ 1
+pub member-beside : (words : List ℕ) (beside b : ℕ) → b ≡ beside → member words (Some beside) b ≡ 1
 member-beside words beside b e = rw (eq-eqb b beside e)
 
-pub member-other : (words : List ℕ) (beside b : ℕ) → b ≢ beside → member words beside b ≡ held words b
+pub member-other : (words : List ℕ) (beside b : ℕ) → b ≢ beside → member words (Some beside) b ≡ held words b
 member-other words beside b n = rw (ne_eqb b beside n)
 
 due-digit : (x : Mark) → due_in x ≡ 1 → (d : ℕ) × (x ≡ due d)
@@ -119,71 +116,75 @@ due-digit unmet e = absurd (omega arith)
 due-digit (due d) e = (d, refl)
 due-digit (examined d) e = absurd (omega arith)
 
-module _ {depths words : List ℕ} {beside : ℕ} {marks : List Mark} (s : Stands depths words beside marks) where
-  -- an unmet address is neither in the set nor beside it
-  unmet-beside : (b : ℕ) → b < 16384 → get_or marks b unmet ≡ unmet → b ≢ beside
-  unmet-beside b h u e = let z : ◌≡◌ {A = ℕ} 1 0 = sym (member-beside words beside b e) ∙ s.dues b h ∙ ap due_in u in omega arith
+-- an address x comes into the set, beside which another may stand
+module _ {words later : List ℕ} {x : ℕ} (j : Joined words x later) where
+  joined-same : (beside : Option ℕ) → member later beside x ≡ 1
+  joined-same None = j.new
+  joined-same (Some b) = ⊎_elim (member-beside later b x) (λ n. member-other later b x n ∙ j.new) (same? x b)
 
-  unmet-out : (b : ℕ) → b < 16384 → get_or marks b unmet ≡ unmet → held words b ≡ 0
-  unmet-out b h u = sym (member-other words beside b (unmet-beside b h u)) ∙ s.dues b h ∙ ap due_in u
+  joined-other : (beside : Option ℕ) (a : ℕ) → a ≢ x → member later beside a ≡ member words beside a
+  joined-other None a n = j.others a n
+  joined-other (Some b) a n = ap (pick (eqb a b) 1) (j.others a n)
 
-  -- the address x is met for the first time and put into the set
-  pub stands-put :
-      {after later : List ℕ} (x e : ℕ) → x < length marks → get_or marks x unmet ≡ unmet → Maps after (set marks x (due e)) → Joined words x later
-      → Stands after later beside (set marks x (due e))
-  stands-put {after} {later} x e i u m j =
-      record {
-        maps = m;
-        size = let l = s.size in omega (arith, length-set marks x (due e));
-        bound = s.bound;
-        out = j.others beside (λ q. unmet-beside x (let l = s.size in omega arith) u (sym q)) ∙ s.out;
-        dues = λ a h.
-            ⊎_elim
-            (λ q. member-other later beside a (λ r. unmet-beside x (let l = s.size in omega arith) u (sym q ∙ r)) ∙ ap (held later) q ∙ j.new
-            ∙ sym (ap due_in (ap (λ (k : ℕ). get_or (set marks x (due e)) k unmet) q ∙ get_or-set_same marks x (due e) unmet i)))
-            (λ n. ap (pick (eqb a beside) 1) (j.others a n) ∙ s.dues a h ∙ sym (ap due_in (get_or-set_other marks x a (due e) unmet n)))
-            (same? a x);
-      }
+  joined-beside : (beside : Option ℕ) → member words beside x ≡ 0 → Beside words beside → Beside later beside
+  joined-beside None z h = tt
+  joined-beside (Some b) z h = (h.0, j.others b (λ q. let o : ◌≡◌ {A = ℕ} 1 0 = sym (member-beside words b x (sym q)) ∙ z in omega arith) ∙ h.1)
+
+-- the address x is met for the first time and put into the set
+pub stands-put :
+    {depths words after later : List ℕ} {beside : Option ℕ} {marks : List Mark} → Stands depths words beside marks → (x e : ℕ) → x < length marks → get_or marks x unmet ≡ unmet
+    → Maps after (set marks x (due e)) → Joined words x later → Stands after later beside (set marks x (due e))
+stands-put {later = later} {beside = beside} {marks = marks} s x e i u m j =
+    let l = s.size in
+    record {
+      maps = m;
+      size = omega (arith, length-set marks x (due e));
+      out = joined-beside j beside (s.dues x (omega arith) ∙ ap due_in u) s.out;
+      dues = λ a h.
+          ⊎_elim
+          (λ q. ap (member later beside) q ∙ joined-same j beside ∙ sym (ap due_in (ap (λ (k : ℕ). get_or (set marks x (due e)) k unmet) q ∙ get_or-set_same marks x (due e) unmet i)))
+          (λ n. joined-other j beside a n ∙ s.dues a h ∙ sym (ap due_in (get_or-set_other marks x a (due e) unmet n)))
+          (same? a x);
+    }
 
 -- the address b is met for the first time, with nothing beside the set, and stands beside it
 pub stands-beside :
-    {depths words after : List ℕ} {marks : List Mark} → Stands depths words 16384 marks → (b e : ℕ) → b < length marks → get_or marks b unmet ≡ unmet
-    → Maps after (set marks b (due e)) → Stands after words b (set marks b (due e))
+    {depths words after : List ℕ} {marks : List Mark} → Stands depths words None marks → (b e : ℕ) → b < length marks → get_or marks b unmet ≡ unmet
+    → Maps after (set marks b (due e)) → Stands after words (Some b) (set marks b (due e))
 stands-beside {words = words} {marks = marks} s b e i u m =
     let l = s.size in
     record {
       maps = m;
       size = omega (arith, length-set marks b (due e));
-      bound = omega arith;
-      out = unmet-out s b (omega arith) u;
+      out = (omega arith, s.dues b (omega arith) ∙ ap due_in u);
       dues = λ a h.
           ⊎_elim
           (λ q. member-beside words b a q ∙ sym (ap due_in (ap (λ (k : ℕ). get_or (set marks b (due e)) k unmet) q ∙ get_or-set_same marks b (due e) unmet i)))
-          (λ n. member-other words b a n ∙ sym (member-other words 16384 a (λ q. omega (arith, q))) ∙ s.dues a h ∙ sym (ap due_in (get_or-set_other marks b a (due e) unmet n)))
+          (λ n. member-other words b a n ∙ s.dues a h ∙ sym (ap due_in (get_or-set_other marks b a (due e) unmet n)))
           (same? a b);
     }
 
 -- the address beside the set is due at the depth in its cell
-pub beside-due : {depths words : List ℕ} {at : ℕ} {marks : List Mark} → Stands depths words at marks → at < 16384 → get_or marks at unmet ≡ due (get_or depths at 0)
-beside-due {depths} {words} {at} {marks} s h =
-    let p = due-digit (get_or marks at unmet) (sym (s.dues at h) ∙ member-beside words at at refl) in
+pub beside-due : {depths words : List ℕ} {at : ℕ} {marks : List Mark} → Stands depths words (Some at) marks → get_or marks at unmet ≡ due (get_or depths at 0)
+beside-due {depths} {words} {at} {marks} s =
+    let p = due-digit (get_or marks at unmet) (sym (s.dues at s.out.0) ∙ member-beside words at at refl) in
     let i : at < length marks = at-inside (at-is marks at p.0 (due p.0) p.1 refl) in
     p.1 ∙ ap due (sym (s.maps.cells at i ∙ ap cell_of p.1))
 
-pub beside-inside : {depths words : List ℕ} {at : ℕ} {marks : List Mark} → Stands depths words at marks → at < 16384 → at < length marks
-beside-inside {depths} {words} {at} {marks} s h = at-inside (at-is marks at (get_or depths at 0) (due (get_or depths at 0)) (beside-due s h) refl)
+pub beside-inside : {depths words : List ℕ} {at : ℕ} {marks : List Mark} → Stands depths words (Some at) marks → at < length marks
+beside-inside {depths} {words} {at} {marks} s = at-inside (at-is marks at (get_or depths at 0) (due (get_or depths at 0)) (beside-due s) refl)
 
 due-small : (x : Mark) (d : ℕ) → x ≡ due d → Small x → d ≤ 1024
 due-small x d e h = subst Small e h
 
 -- once it is marked as examined, nothing is beside the set
 pub stands-examined :
-    {depths words : List ℕ} {at : ℕ} {marks : List Mark} → Stands depths words at marks → at < 16384 → held words 16384 ≡ 0
-    → Stands depths words 16384 (set marks at (examined (get_or depths at 0)))
-stands-examined {depths} {words} {at} {marks} s h z =
+    {depths words : List ℕ} {at : ℕ} {marks : List Mark} → Stands depths words (Some at) marks
+    → Stands depths words None (set marks at (examined (get_or depths at 0)))
+stands-examined {depths} {words} {at} {marks} s =
     let d : ℕ = get_or depths at 0 in
-    let i = beside-inside s h in
-    let u = beside-due s h in
+    let i = beside-inside s in
+    let u = beside-due s in
     record {
       maps = record {
         len = s.maps.len ∙ sym (length-set marks at (examined d));
@@ -199,16 +200,15 @@ stands-examined {depths} {words} {at} {marks} s h z =
             (same? a at);
       };
       size = let l = s.size in omega (arith, length-set marks at (examined d));
-      bound = omega arith;
-      out = z;
+      out = tt;
       dues = λ a l.
           ⊎_elim
-          (λ q. member-other words 16384 a (λ r. omega (arith, r)) ∙ ap (held words) q ∙ s.out ∙ sym (ap due_in (ap (λ (k : ℕ). get_or (set marks at (examined d)) k unmet) q ∙ get_or-set_same marks at (examined d) unmet i)))
-          (λ n. member-other words 16384 a (λ r. omega (arith, r)) ∙ sym (member-other words at a n) ∙ s.dues a l ∙ sym (ap due_in (get_or-set_other marks at a (examined d) unmet n)))
+          (λ q. ap (held words) q ∙ s.out.1 ∙ sym (ap due_in (ap (λ (k : ℕ). get_or (set marks at (examined d)) k unmet) q ∙ get_or-set_same marks at (examined d) unmet i)))
+          (λ n. sym (member-other words at a n) ∙ s.dues a l ∙ sym (ap due_in (get_or-set_other marks at a (examined d) unmet n)))
           (same? a at);
     }
 
 -- what meeting gave is what examining gives
-pub went-turned : (a : ℕ) (m : Meeting) (r : Examined) (depths words : List ℕ) → Went m r depths words → Turned a (turned a m) r depths words
-went-turned a m (On beside) depths words w = (w.0, ap (turned a) w.1, w.2)
-went-turned a m (Stop k) depths words w = ap (turned a) w
+pub went-turned : (a : ℕ) (m : Meeting) (r : Result (Option ℕ) Refusal) (depths words : List ℕ) → Went m r depths words → Turned a (turned a m) r depths words
+went-turned a m (Ok beside) depths words w = (w.0, ap (turned a) w.1, w.2)
+went-turned a m (Err why) depths words w = ap (turned a) w

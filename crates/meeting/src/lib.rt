@@ -3,102 +3,89 @@
 
 ghost use Rattle.std.specs.Prelude.{◌≡◌, List, [], ◌∷◌, ℕ, ◌<◌, ◌≤◌, length, get_or};
 ghost use Rattle.paths.specs.Paths.{hop};
-ghost use Rattle.pending.specs.Sets.{Topped};
 ghost use Rattle.look.specs.Look.{look_of};
-ghost use Rattle.shapes.specs.Shapes.{shape_rows};
 ghost use Rattle.meeting.specs.Stands.{MeetsAny, InsideNew, WentAny, TurnedAny};
 
+use basis::Refusal;
 use look::Look;
+use pending::Pending;
+use shapes::Shapes;
 
-// An address is met: for the first time, again at the same depth, or it is refused by a number.
+// An address is met: for the first time, or again at the same depth.
 #[derive(Clone, Copy)]
 enum Meeting {
     New,
     Known,
-    Refused(usize),
-}
-
-// An address is examined: the walk goes on, with one address that is due beside the set (16,384 for none), or it stops by a number.
-#[derive(Clone, Copy)]
-pub enum Examined {
-    On(usize),
-    Stop(usize),
 }
 
 // The address b is met at depth e.
-fn meet(map: &mut [u16], b: usize, e: usize) -> Meeting
+// Stays: a depth's bound as a clause: a type for it is no plainer, it would be made of a `Look` and taken apart for the map's cell.
+fn meet(map: &mut [u16], b: usize, e: usize) -> Result<Meeting, Refusal>
     requires { e ≤ 1024 }
     ensures { MeetsAny map.old b e result map.new × InsideNew (length map.old) b result }
 {
     if b >= map.len() {
-        return Meeting::Refused(1);
+        return Err(Refusal::PastEnd);
     }
     let depth = map[b] as usize;
+    // Stays: 65,535 for none: the C interface has it in the cells of the depth map.
     if depth == 65535 {
         map[b] = e as u16;
-        return Meeting::New;
+        return Ok(Meeting::New);
     }
     if depth == e {
-        return Meeting::Known;
+        return Ok(Meeting::Known);
     }
-    Meeting::Refused(10)
+    Err(Refusal::TwoDepths)
 }
 
-// One successor is met, with nothing beside the set.
-fn meet_one(map: &mut [u16], b: usize, e: usize) -> Examined
+// One successor is met, with nothing beside the set: what then is, if anything.
+fn meet_one(map: &mut [u16], b: usize, e: usize) -> Result<Option<usize>, Refusal>
     requires { e ≤ 1024 }
     ensures { (words : List ℕ) → WentAny map.old words (hop b e ∷ []) result map.new words }
 {
-    match meet(map, b, e) {
-        Meeting::New => Examined::On(b),
-        Meeting::Known => Examined::On(16384),
-        Meeting::Refused(number) => Examined::Stop(number),
+    match meet(map, b, e)? {
+        Meeting::New => Ok(Some(b)),
+        Meeting::Known => Ok(None),
     }
 }
 
 // The next instruction and a target are met.
 fn meet_two(
     map: &mut [u16],
-    words: &mut [u64],
-    tops: &mut [u64],
+    pending: &mut Pending,
     b: usize,
     x: usize,
     e: usize,
-) -> Examined
-    requires { (e ≤ 1024) × (length map.old ≤ 16384) × Topped words.old tops.old }
-    ensures { WentAny map.old words.old (hop b e ∷ hop x e ∷ []) result map.new words.new × Topped words.new tops.new }
+) -> Result<Option<usize>, Refusal>
+    requires { (e ≤ 1024) × (length map.old ≤ 16384) }
+    ensures { WentAny map.old pending.old.words (hop b e ∷ hop x e ∷ []) result map.new pending.new.words }
 {
-    match meet_one(map, b, e) {
-        Examined::On(beside) => match meet(map, x, e) {
-            Meeting::New => {
-                pending::put(words, tops, x);
-                Examined::On(beside)
-            }
-            Meeting::Known => Examined::On(beside),
-            Meeting::Refused(number) => Examined::Stop(number),
-        },
-        Examined::Stop(number) => Examined::Stop(number),
+    let beside = meet_one(map, b, e)?;
+    match meet(map, x, e)? {
+        Meeting::New => pending.put(x),
+        Meeting::Known => (),
     }
+    Ok(beside)
 }
 
-// The address that is beside the set is examined, and what it leads to is met; the rows are the table of shapes.
+// The address that is beside the set is examined, and what it leads to is met: the walk goes on, with the address, if any, that is
+// then due beside the set.
 pub fn examine(
     program: &[u8],
     cells: usize,
     map: &mut [u16],
-    words: &mut [u64],
-    tops: &mut [u64],
+    pending: &mut Pending,
     at: usize,
-    rows: &[u8],
-) -> Examined
-    requires { (cells ≤ 1024) × (at < length map.old) × (length map.old ≤ 16384) × Topped words.old tops.old × (length map.old ≡ length program.now) × (rows.now ≡ shape_rows) }
-    ensures { TurnedAny (look_of program.now cells) at (get_or map.old at 0) map.old words.old result map.new words.new × Topped words.new tops.new }
+    shapes: Shapes,
+) -> Result<Option<usize>, Refusal>
+    requires { (cells ≤ 1024) × (at < length map.old) × (length map.old ≤ 16384) × (length map.old ≡ length program.now) }
+    ensures { TurnedAny (look_of program.now cells) at (get_or map.old at 0) map.old pending.old.words result map.new pending.new.words }
 {
     let depth = map[at] as usize;
-    match glance::look_at(rows, program, cells, at, depth) {
-        Look::Bad(number) => Examined::Stop(number),
-        Look::Nowhere => Examined::On(16384),
+    match glance::look_at(shapes, program, cells, at, depth)? {
+        Look::Nowhere => Ok(None),
         Look::One(b, e) => meet_one(map, b, e),
-        Look::Two(b, x, e) => meet_two(map, words, tops, b, x, e),
+        Look::Two(b, x, e) => meet_two(map, pending, b, x, e),
     }
 }

@@ -22,6 +22,15 @@ abbrev short : List String → Bool
 short [] = true
 short (s ∷ ss) = both (leb (length (bytes s)) 17) (short ss)
 
+short-at : (ss : List String) → short ss ≡ true → (k : ℕ) → length (bytes (get_or ss k "")) ≤ 17
+short-at [] t k = omega arith
+short-at (s ∷ ss) t zero = leb-true _ _ (both_left (leb (length (bytes s)) 17) (short ss) t)
+short-at (s ∷ ss) t (suc k) = short-at ss (both_right (leb (length (bytes s)) 17) (short ss) t) k
+
+pub name-short : (c : ℕ) → length (name_of c) ≤ 17
+unfolding name_of
+name-short c = short-at names refl (place_of c)
+
 length-row : (s : String) → length (bytes s) ≤ 17 → length (row s) ≡ 18
 length-row s h = simp (length-append, length-replicate) (omega arith)
 
@@ -51,19 +60,22 @@ row-name c h = rw (← drop-drop 1 (18 * place_of c) name_rows, row_at c h) (tak
 row_fits : (c : ℕ) → place_of c < 93 → 18 * place_of c + 1 + length (name_of c) ≤ 1674
 row_fits c h = omega (arith, simp (length-drop, length-append, length-rows) at (ap length (row_at c h)))
 
+pub length-lent : (lent : List ℕ) → lent ≡ name_rows → length lent ≡ 1674
+length-lent lent e = rw (e, length-rows) refl
+
 -- the table that the code was lent, at the row that it found
 module _ (lent : List ℕ) (c k : ℕ) (e : lent ≡ name_rows) (f : k ≡ place_of c) (h : k < 93) where
-  pub row_inside : 18 * k < length lent
-  row_inside = rw (e, length-rows) (omega arith)
-
   pub name-length-at : get_or lent (18 * k) 0 ≡ length (name_of c)
   name-length-at = let g : place_of c < 93 = omega arith in rw (e, f) (row-length c g)
 
-  pub name-end : 18 * k + 1 + get_or lent (18 * k) 0 ≤ length lent
-  name-end = let g : place_of c < 93 = omega arith in rw (e, f, row-length c g, length-rows) (row_fits c g)
+  pub name-end : 18 * k + 1 + length (name_of c) ≤ length lent
+  name-end = let g : place_of c < 93 = omega arith in rw (e, f, length-rows) (row_fits c g)
 
-  pub name-part : take (18 * k + 1 + get_or lent (18 * k) 0 - (18 * k + 1)) (drop (18 * k + 1) lent) ≡ name_of c
+  pub name-part : take (18 * k + 1 + length (name_of c) - (18 * k + 1)) (drop (18 * k + 1) lent) ≡ name_of c
   name-part =
       let m : 18 * place_of c + 1 + length (name_of c) - (18 * place_of c + 1) ≡ length (name_of c) = omega arith in
       let g : place_of c < 93 = omega arith in
-      rw (e, f, row-length c g, m) (row-name c g)
+      rw (e, f, m) (row-name c g)
+
+-- what is known of the table, for the search
+pub ruleset tabled = (length-lent, name-length-at, name-short, name-end, name-part)

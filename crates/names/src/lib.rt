@@ -1,11 +1,14 @@
 // The names of the codes: a table of rows that a caller makes once and lends.
 #![tactic(auto)]
 
-ghost use Rattle.std.specs.Prelude.{◌≡◌, ◌+◌, ◌≤◌, ◌<◌, length};
-ghost use Rattle.text.specs.Put.{Put};
+ghost use Rattle.std.specs.Prelude.{◌≡◌, ◌<◌, length};
+ghost use Rattle.text.specs.Pen.{Puts, HasPlace};
 ghost use Rattle.names.specs.Names.{place_of, name_of};
 ghost use Rattle.names.specs.Rows.{name_rows};
 
+use text::Pen;
+
+// Stays: rows of bytes, as in shapes.
 // A row of 18 bytes for each code of 00 to 5A, for 80 and for C0: the name's length, the name, and blanks.
 const ROWS: [u8; 1674] = *b"\
 \x04halt             \
@@ -114,32 +117,39 @@ pub fn rows() -> [u8; 1674]
 fn place_of(code: u8) -> usize
     ensures { (result ≡ place_of code) × (result < 93) }
 {
-    if code < 0x5B {
-        return code as usize;
+    match code {
+        0x00..=0x5A => code as usize,
+        0x5B..=0xBF => 0x5B,
+        _ => 0x5C,
     }
-    if code < 0xC0 {
-        return 0x5B;
-    }
-    0x5C
 }
 
-// The length of a code's name.
-pub fn name_length(names: &[u8], code: u8) -> usize
-    requires { names.now ≡ name_rows }
-    ensures { (result ≡ length (name_of code)) × (result < 256) }
-{
-    let start = 18 * place_of(code);
-    names[start] as usize
+// The table as it is lent.
+#[derive(Clone, Copy)]
+pub struct Names<'a> {
+    pub rows: &'a [u8],
+    ghost table: { rows.now ≡ name_rows },
 }
 
-// Puts a code's name into `room` from `at`; the place after it.
-pub fn put_name(names: &[u8], code: u8, room: &mut [u8], at: usize) -> usize
-    requires { (names.now ≡ name_rows) × (at + length (name_of code) ≤ length room.old) }
-    ensures { Put (name_of code) room.old at room.new result }
-{
-    let row = 18 * place_of(code);
-    let n = names[row] as usize;
-    let from = row + 1;
-    let end = from + n;
-    text::put_text(&names[from..end], room, at)
+impl Names<'_> {
+    // The length of a code's name.
+    #[tactic(auto, using(crate::proofs::Named::tabled))]
+    pub fn length(self, code: u8) -> usize
+        ensures { (result ≡ length (name_of code)) × (result < 256) }
+    {
+        let start = 18 * place_of(code);
+        self.rows[start] as usize
+    }
+
+    // Puts a code's name.
+    #[tactic(auto, using(crate::proofs::Named::tabled))]
+    pub fn put(self, code: u8, pen: &mut Pen)
+        requires { HasPlace pen.old (length (name_of code)) }
+        ensures { Puts (name_of code) pen.old pen.new }
+    {
+        let row = 18 * place_of(code);
+        let from = row + 1;
+        let end = from + self.length(code);
+        pen.put_text(&self.rows[from..end]);
+    }
 }

@@ -1,19 +1,20 @@
 -- Laws of operands: their lengths, and how they are put.
 -- Assumes nothing.
-use Prim.Native.Nat.{ℕ, zero, suc, ◌+◌, ◌/◌, ◌≤◌}
+use Prim.Native.Nat.{ℕ, zero, suc, ◌+◌, ◌/◌, ◌≤◌, ◌<◌}
 use native.Mathlib.Omega.{arith}
+use native.Mathlib.Numerals.{add-one}
 use mathlib.Core.Path.{◌≡◌, refl, sym, ap, ◌∙◌}
-use mathlib.Core.List.{List, ◌++◌}
-use lib.ListN.{length, set, length-append}
+use mathlib.Core.List.{List, [], ◌∷◌, ◌++◌, append_assoc, append-nil}
+use lib.ListN.{length, get_or, take, length-append}
+use lib.Seq.{take_all}
 use Rattle.forms.specs.Form.{form_of, width0, width1, width2, width3}
 use Rattle.forms.specs.declared.Form.{Form}
 use Rattle.forms.specs.declared.Form.TheVariants.{Plain, Byte, Shift, Word, Short, Values, Illegal}
 use Rattle.forms.proofs.Widths.{value-width-le}
 use Rattle.isa.specs.declared.Instruction.{Instruction}
 use Rattle.text.specs.Text.{bytes, hex_of}
-use Rattle.text.specs.Put.{Put}
-use Rattle.text.proofs.Puts.{length-hex, put_one, put-append}
-use Rattle.operands.specs.Operands.{operand_of, shown_in, operands_of}
+use Rattle.text.proofs.Puts.{length-hex}
+use Rattle.operands.specs.Operands.{operand_of, shown_in, sized_of, operands_of}
 
 -- an operand that is there
 pub operand-long : (w v : ℕ) → 1 ≤ w → operand_of w v ≡ bytes " $" ++ hex_of w v
@@ -33,11 +34,6 @@ shown-le Short = omega arith
 shown-le Values = omega arith
 shown-le Illegal = omega arith
 
-pub put-operand : (w v at end : ℕ) (room after : List ℕ) → 1 ≤ w → Put (hex_of w v) (set (set room at 32) (at + 1) 36) (at + 2) after end → Put (operand_of w v) room at after end
-put-operand w v at end room after h p =
-    let two : at + 1 + 1 ≡ at + 2 = omega arith in
-    rw (operand-long w v h) (put-append (put-append (put_one room at 32) (put_one (set room at 32) (at + 1) 36)) (rw two p))
-
 -- the operands together
 pub length-operands : (i : Instruction) → length (operands_of i) ≡
     length (operand_of (shown_in (form_of i.code)) i.number) + (length (operand_of (width0 i.count i.flags) i.v0)
@@ -45,38 +41,56 @@ pub length-operands : (i : Instruction) → length (operands_of i) ≡
 unfolding operands_of
 length-operands i = simp length-append
 
--- the widths of an instruction's operands as locals hold them
-module _ (i : Instruction) (f : Form) (w w0 w1 w2 w3 : ℕ) (ef : f ≡ form_of i.code) (e : w ≡ shown_in f)
-    (e0 : w0 ≡ width0 i.count i.flags) (e1 : w1 ≡ width1 i.count i.flags) (e2 : w2 ≡ width2 i.count i.flags) (e3 : w3 ≡ width3 i.count i.flags) where
-  shown-lengths : length (operands_of i)
-      ≡ length (operand_of w i.number) + (length (operand_of w0 i.v0) + (length (operand_of w1 i.v1) + (length (operand_of w2 i.v2) + length (operand_of w3 i.v3))))
-  shown-lengths = rw (e, ef, e0, e1, e2, e3) (length-operands i)
+-- the operands of a list, one after the other
+abbrev pub all_of : List (ℕ × ℕ) → List ℕ
+all_of [] = []
+all_of (x ∷ xs) = operand_of x.0 x.1 ++ all_of xs
 
-  pub length-all : (n n0 n1 n2 n3 : ℕ) → n ≡ length (operand_of w 0) → n0 ≡ length (operand_of w0 0) → n1 ≡ length (operand_of w1 0) → n2 ≡ length (operand_of w2 0) → n3 ≡ length (operand_of w3 0)
-      → n + n0 + n1 + n2 + n3 ≡ length (operands_of i)
-  length-all n n0 n1 n2 n3 p p0 p1 p2 p3 =
-      omega (arith, shown-lengths, length-operand w i.number, length-operand w0 i.v0, length-operand w1 i.v1, length-operand w2 i.v2, length-operand w3 i.v3)
+pub all-operands : (i : Instruction) → all_of (sized_of i) ≡ operands_of i
+unfolding operands_of
+all-operands i = simp append-nil
 
-  pub put_all : (l l₀ l₁ l₂ l₃ l₄ : List ℕ) (at a₀ a₁ a₂ a₃ end : ℕ) → Put (operand_of w i.number) l at l₀ a₀ → Put (operand_of w0 i.v0) l₀ a₀ l₁ a₁ → Put (operand_of w1 i.v1) l₁ a₁ l₂ a₂
-      → Put (operand_of w2 i.v2) l₂ a₂ l₃ a₃ → Put (operand_of w3 i.v3) l₃ a₃ l₄ end → Put (operands_of i) l at l₄ end
-  unfolding operands_of
-  put_all l l₀ l₁ l₂ l₃ l₄ at a₀ a₁ a₂ a₃ end p p₀ p₁ p₂ p₃ = rw (← ef, ← e, ← e0, ← e1, ← e2, ← e3) (put-append p (put-append p₀ (put-append p₁ (put-append p₂ p₃))))
+-- at most two bytes of each are shown
+width-le : (i : Instruction) (k : ℕ) → (get_or (sized_of i) k (0, 0)).0 ≤ 2
+width-le i zero = shown-le (form_of i.code)
+width-le i (suc zero) = value-width-le 0 i.count i.flags
+width-le i (suc (suc zero)) = value-width-le 1 i.count (i.flags / 2)
+width-le i (suc (suc (suc zero))) = value-width-le 2 i.count (i.flags / 4)
+width-le i (suc (suc (suc (suc zero)))) = value-width-le 3 i.count (i.flags / 8)
+width-le i (suc (suc (suc (suc (suc k))))) = omega arith
 
-  -- the places where they are put, one after the other, are in the room
-  module _ (at n : ℕ) (h : at + length (operands_of i) ≤ n) where
-    pub room-number : (w ≤ 2) × (at + length (operand_of w 0) ≤ n)
-    room-number = (rw e (shown-le f), omega (arith, shown-lengths, length-operand w i.number))
+-- one operand more
+more : (xs : List (ℕ × ℕ)) (k : ℕ) → k < length xs → all_of (take (suc k) xs) ≡ all_of (take k xs) ++ operand_of (get_or xs k (0, 0)).0 (get_or xs k (0, 0)).1
+more [] k h = absurd (omega arith)
+more (x ∷ xs) zero h = append-nil _
+more (x ∷ xs) (suc k) h = rw (more xs k (omega arith), append_assoc) refl
 
-    pub room-first : (a m : ℕ) → a ≡ at + length (operand_of w i.number) → m ≡ n → (w0 ≤ 2) × (a + length (operand_of w0 0) ≤ m)
-    room-first a m p k = (rw e0 (value-width-le 0 i.count i.flags), omega (arith, shown-lengths, length-operand w0 i.v0))
+-- the first ones are no longer than all
+within : (xs : List (ℕ × ℕ)) (k : ℕ) → length (all_of (take k xs)) ≤ length (all_of xs)
+within [] zero = omega arith
+within [] (suc k) = omega arith
+within (x ∷ xs) zero = omega arith
+within (x ∷ xs) (suc k) = simp length-append (omega (arith, within xs k))
 
-    pub room-second : (a b m : ℕ) → a ≡ at + length (operand_of w i.number) → b ≡ a + length (operand_of w0 i.v0) → m ≡ n → (w1 ≤ 2) × (b + length (operand_of w1 0) ≤ m)
-    room-second a b m p q k = (rw e1 (value-width-le 1 i.count (i.flags / 2)), omega (arith, shown-lengths, length-operand w1 i.v1))
+-- the operands of an instruction as a local holds them, of which k were met
+module _ (i : Instruction) (xs : List (ℕ × ℕ)) (k : ℕ) (e : xs ≡ sized_of i) where
+  pub sized-le : (get_or xs k (0, 0)).0 ≤ 2
+  sized-le = rw e (width-le i k)
 
-    pub room-third : (a b d m : ℕ) → a ≡ at + length (operand_of w i.number) → b ≡ a + length (operand_of w0 i.v0) → d ≡ b + length (operand_of w1 i.v1) → m ≡ n
-        → (w2 ≤ 2) × (d + length (operand_of w2 0) ≤ m)
-    room-third a b d m p q r k = (rw e2 (value-width-le 2 i.count (i.flags / 4)), omega (arith, shown-lengths, length-operand w2 i.v2))
+  pub all-more : k < 5 → all_of (take (k + 1) xs) ≡ all_of (take k xs) ++ operand_of (get_or xs k (0, 0)).0 (get_or xs k (0, 0)).1
+  all-more h = rw add-one (more xs k (omega (arith, ap length e)))
 
-    pub room-fourth : (a b d g m : ℕ) → a ≡ at + length (operand_of w i.number) → b ≡ a + length (operand_of w0 i.v0) → d ≡ b + length (operand_of w1 i.v1)
-        → g ≡ d + length (operand_of w2 i.v2) → m ≡ n → (w3 ≤ 2) × (g + length (operand_of w3 0) ≤ m)
-    room-fourth a b d g m p q r t k = (rw e3 (value-width-le 3 i.count (i.flags / 8)), omega (arith, shown-lengths, length-operand w3 i.v3))
+  pub all-within : k < 5 → length (all_of (take k xs)) + length (operand_of (get_or xs k (0, 0)).0 0) ≤ length (operands_of i)
+  all-within h = omega (
+    arith,
+    simp length-append at (ap length (all-more h)),
+    length-operand (get_or xs k (0, 0)).0 (get_or xs k (0, 0)).1,
+    within xs (k + 1),
+    ap length (ap all_of e ∙ all-operands i),
+  )
+
+  pub all-done : 5 ≤ k → all_of (take k xs) ≡ operands_of i
+  all-done h = rw (take_all k xs (omega (arith, ap length e)), e) (all-operands i)
+
+-- an operand's length, for the search
+pub ruleset lengths = (operand-long, length-hex)

@@ -1,5 +1,5 @@
 -- What a line of the listing shows of an instruction's operands.
-use Rattle.std.specs.Prelude.{ℕ, zero, suc, List, [], ◌++◌}
+use Rattle.std.specs.Prelude.{ℕ, zero, suc, List, [], ◌∷◌, ◌++◌}
 use Rattle.forms.specs.Form.{form_of, width0, width1, width2, width3}
 use Rattle.forms.specs.declared.Form.{Form}
 use Rattle.forms.specs.declared.Form.TheVariants.{Plain, Byte, Shift, Word, Short, Values, Illegal}
@@ -20,6 +20,16 @@ shown_in Word = 2
 shown_in Short = 1
 shown_in Values = 0
 shown_in Illegal = 0
+
+-- the operands of an instruction, each with the bytes of it that are shown
+abbrev pub sized_of : Instruction → List (ℕ × ℕ)
+sized_of i =
+    (shown_in (form_of i.code), i.number)
+    ∷ (width0 i.count i.flags, i.v0)
+    ∷ (width1 i.count i.flags, i.v1)
+    ∷ (width2 i.count i.flags, i.v2)
+    ∷ (width3 i.count i.flags, i.v3)
+    ∷ []
 
 -- the operands of an instruction: its number, and its values
 unfoldable pub operands_of : Instruction → List ℕ

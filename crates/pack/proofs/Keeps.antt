@@ -10,7 +10,6 @@ use lib.Dec.{ltb, eqb}
 use lib.ListN.{length}
 use borrow.Author.Tests.{lt-ltb, le-ltb, eq-eqb, ne_eqb, ltb-true, ltb-false, eqb-true, eqb-false}
 use Rattle.basis.specs.Answer.{Answer, given, refused}
-use Rattle.basis.specs.Number.{number_at}
 use Rattle.basis.proofs.Tests.{same?, refused-given, refused-one, given-one}
 use Rattle.halving.specs.Halving.{reached}
 use Rattle.halving.proofs.Finds.{reaches}
@@ -20,31 +19,6 @@ use Rattle.pack.specs.Lookup.{kept_of, halved_of, lookup_of}
 use Rattle.pack.specs.Refusals.{Held, come_to, Why, too_long, contents_cut, no_entries, another_tag, over_cells, over_length, past_end}
 use Rattle.pack.specs.declared.Entry.{Entry}
 use Rattle.pack.proofs.Sounds.{whole-held, held_whole, held-thirty}
-
--- the entry at a place, its numbers as they are read one after the other
-module _ (s : List ℕ) (at tag found : ℕ) (told : found ≡ number_at 2 s at) where
-  pub kept-other : found ≢ tag → refused 36 ≡ kept_of s tag (entry_at s at)
-  unfolding kept_of entry_at
-  kept-other n = rw (← told, ne_eqb found tag n)
-
-  module _ (same : found ≡ tag) (cells : ℕ) (has : cells ≡ number_at 2 s (at + 2)) where
-    pub kept-cells : 1024 < cells → refused 35 ≡ kept_of s tag (entry_at s at)
-    unfolding kept_of entry_at
-    kept-cells h = rw (← told, ← has, eq-eqb found tag same, lt-ltb 1024 cells h)
-
-    module _ (few : cells ≤ 1024) (len : ℕ) (long : len ≡ number_at 2 s (at + 6)) where
-      pub kept-length : 16384 < len → refused 35 ≡ kept_of s tag (entry_at s at)
-      unfolding kept_of entry_at
-      kept-length h = rw (← told, ← has, ← long, eq-eqb found tag same, le-ltb 1024 cells few, lt-ltb 16384 len h)
-
-      module _ (short : len ≤ 16384) (offset : ℕ) (begins : offset ≡ number_at 2 s (at + 4)) where
-        pub kept-outside : length s < offset + len → refused 34 ≡ kept_of s tag (entry_at s at)
-        unfolding kept_of entry_at
-        kept-outside h = rw (← told, ← has, ← long, ← begins, eq-eqb found tag same, le-ltb 1024 cells few, le-ltb 16384 len short, lt-ltb (length s) (offset + len) h)
-
-        pub kept-good : offset + len ≤ length s → ◌≡◌ {A = Answer Entry} (given record { tag = tag; cells = cells; offset = offset; length = len }) (kept_of s tag (entry_at s at))
-        unfolding kept_of entry_at
-        kept-good h = rw (← told, ← has, ← long, ← begins, eq-eqb found tag same, le-ltb 1024 cells few, le-ltb 16384 len short, le-ltb (length s) (offset + len) h, same)
 
 -- the place that halving comes to is that of an entry
 pub reached-in : (s : List ℕ) (n tag at : ℕ) → n ≢ 0 → n ≤ 64 → first_of n ≤ length s → at ≡ reached 2 8 s tag n → at + 8 ≤ length s

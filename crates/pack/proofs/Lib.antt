@@ -3,4 +3,3 @@ pub mod Walks
 pub mod Sounds
 pub mod Tags
 pub mod Keeps
-pub mod Answers

@@ -1,6 +1,6 @@
 -- What the check's answers show of a pack: the bounds within which its entries are read.
 -- Assumes nothing.
-use Prim.Native.Nat.{ℕ, ◌≤◌, ◌<◌}
+use Prim.Native.Nat.{ℕ, ◌+◌, ◌*◌, ◌≤◌, ◌<◌}
 use native.Mathlib.Omega.{arith}
 use mathlib.Core.Path.{◌≡◌, refl, sym, ap, ◌∙◌}
 use mathlib.Core.Logic.{◌⊎◌, inl, inr, ⊎_elim}
@@ -8,13 +8,14 @@ use mathlib.Core.Bool.{Bool, true, false}
 use mathlib.Core.List.{List}
 use lib.Dec.{ltb, eqb}
 use lib.ListN.{length}
-use borrow.Author.Tests.{lt-ltb, le-ltb, eq-eqb, ltb-false, eqb-true}
+use borrow.Author.Tests.{le-ltb, eq-eqb, ltb-false, eqb-true}
+use Rattle.std.specs.Prelude.{slice_get, Some}
 use Rattle.basis.specs.Answer.{Answer, given, refused, seen}
 use Rattle.basis.proofs.Tests.{refused-given, refused-one, given-one}
-use Rattle.pack.specs.Contents.{first_of, entries_from, end_of}
+use Rattle.pack.specs.Contents.{first_of, entry_at, entries_from, end_of}
 use Rattle.pack.specs.Read.{count_of, entries_of, held_of, contents_of, read_of}
 use Rattle.pack.specs.declared.Entry.{Entry}
-use Rattle.pack.proofs.Walks.{length_from}
+use Rattle.pack.proofs.Walks.{length_from, from-there}
 
 -- the contents are whole
 pub record Whole (s : List ℕ) : Type 0 where
@@ -27,25 +28,9 @@ unfolding contents_of entries_of
 whole-walk s w = rw (le-ltb _ _ w.head, le-ltb _ _ w.count, le-ltb _ _ w.room)
 
 -- the count of entries that are inside the bytes, and what it shows
-pub held_none : (s : List ℕ) → length s < 2 → refused 30 ≡ held_of s
-unfolding held_of
-held_none s h = rw (lt-ltb (length s) 2 h)
-
-module _ (s : List ℕ) (n : ℕ) (head : 2 ≤ length s) (told : n ≡ count_of s) where
-  pub held-many : 64 < n → refused 30 ≡ held_of s
-  unfolding held_of
-  held-many h = rw (le-ltb (length s) 2 head, ← told, lt-ltb 64 n h)
-
-  pub held_cut : n ≤ 64 → length s < first_of n → refused 30 ≡ held_of s
-  unfolding held_of
-  held_cut few h = rw (le-ltb (length s) 2 head, ← told, le-ltb 64 n few, lt-ltb (length s) (first_of n) h)
-
-  pub held_all : n ≤ 64 → first_of n ≤ length s → given n ≡ held_of s
-  unfolding held_of
-  held_all few h = rw (le-ltb (length s) 2 head, ← told, le-ltb 64 n few, le-ltb (length s) (first_of n) h)
-
 pub whole-held : (s : List ℕ) → Whole s → held_of s ≡ given (count_of s)
-whole-held s w = sym (held_all s (count_of s) w.head refl w.count w.room)
+unfolding held_of
+whole-held s w = rw (le-ltb (length s) 2 w.head, le-ltb 64 (count_of s) w.count, le-ltb (length s) (first_of (count_of s)) w.room)
 
 -- they are all inside, or the contents are refused by 30
 held-cases : (s : List ℕ) → (Whole s × (held_of s ≡ given (count_of s))) ⊎ ((held_of s ≡ refused 30) × (contents_of s ≡ refused 30))
@@ -81,9 +66,6 @@ contents_cut s k h = (held-cut-thirty s k h).1
 
 pub held-bounds : (s : List ℕ) (n : ℕ) → held_of s ≡ given n → (n ≤ 64) × (first_of n ≤ length s)
 held-bounds s n h = let w = held_whole s n h in (rw (← w.1) w.0.count, rw (← w.1) w.0.room)
-
-pub contents-held : (s : List ℕ) (n : ℕ) (a : Answer ℕ) → held_of s ≡ given n → a ≡ end_of 0 (first_of n) (entries_from s 2 n) → a ≡ contents_of s
-contents-held s n a h e = let w = held_whole s n h in e ∙ rw (← w.1) (sym (whole-walk s w.0))
 
 pub ended-whole : (s : List ℕ) (end : ℕ) → contents_of s ≡ given end → Whole s
 ended-whole s end h = go (held_of s) refl
@@ -139,6 +121,10 @@ counted s n h = go (read_of s) refl
         let w = g.whole in
         let q : count_of s ≡ n = sym (length-entries s) ∙ given-one _ _ (rw (sound-read s g) at h) in
         record { read = rw (← q) (sound-read s g); few = omega (arith, w.count); room = rw (← q) w.room; ends = rw (← q) g.ends }
+
+-- the entry at an index below the count
+pub entry-there : (s : List ℕ) (n i : ℕ) → Counted s n → i < n → seen (λ es. slice_get es i) (read_of s) ≡ given (Some (entry_at s (2 + 8 * i)))
+entry-there s n i k h = rw (k.read, from-there s 2 n i h)
 
 -- a refusal is seen as it is
 pub refused-seen : {A B : Type 0} (f : A → B) (a : Answer A) (n : ℕ) → seen f a ≡ refused n → a ≡ refused n

@@ -5,22 +5,19 @@ use native.Mathlib.Omega.{arith}
 use native.Mathlib.Nat.{add-zero}
 use mathlib.Core.Path.{◌≡◌, refl, sym, ap, ◌∙◌}
 use mathlib.Core.Bool.{Bool, true, false}
+use mathlib.Core.Logic.{◌≢◌}
 use mathlib.Core.List.{List, [], ◌∷◌}
-use mathlib.Core.Option.{none, some}
 use lib.Dec.{ltb, eqb}
 use lib.ListN.{length, get_elem?}
+use mathlib.Core.Option.{some}
+use Rattle.std.specs.Prelude.{slice_get, Some, None}
 use borrow.Author.Tests.{le-ltb, eq-eqb, ne_eqb, ltb-false, eqb-true}
 use Rattle.basis.specs.Answer.{Answer, given, refused}
-use Rattle.basis.specs.Number.{number_at}
+use Rattle.basis.specs.Refusal.{number_of}
+use Rattle.basis.specs.declared.refusal.Refusal.{Refusal}
 use Rattle.basis.proofs.Tests.{refused-given}
 use Rattle.pack.specs.Contents.{entry_at, entries_from, refusal_of, end_of}
 use Rattle.pack.specs.declared.Entry.{Entry}
-
--- the four numbers of an entry
-pub entry_read : (s : List ℕ) (at tag cells offset length : ℕ) → tag ≡ number_at 2 s at → cells ≡ number_at 2 s (at + 2) → offset ≡ number_at 2 s (at + 4) → length ≡ number_at 2 s (at + 6)
-    → ◌≡◌ {A = Entry} record { tag = tag; cells = cells; offset = offset; length = length } (entry_at s at)
-unfolding entry_at
-entry_read s at tag cells offset length t c o l = rw (t, c, o, l)
 
 -- the first of the entries and the others
 pub from_more : (s : List ℕ) (at left : ℕ) → 0 < left → entries_from s at left ≡ entry_at s at ∷ entries_from s (at + 8) (left - 1)
@@ -32,29 +29,42 @@ length_from s at zero = refl
 length_from s at (suc n) = ap suc (length_from s (at + 8) n)
 
 -- the entry at an index
-pub from-there : (s : List ℕ) (at n i : ℕ) → i < n → get_elem? (entries_from s at n) i ≡ some (entry_at s (at + 8 * i))
+pub from-there : (s : List ℕ) (at n i : ℕ) → i < n → slice_get (entries_from s at n) i ≡ Some (entry_at s (at + 8 * i))
 from-there s at zero i h = absurd (omega arith)
 from-there s at (suc n) zero h = rw add-zero
 from-there s at (suc n) (suc i) h =
     let z : at + 8 + 8 * i ≡ at + 8 * suc i = omega arith in
     from-there s (at + 8) n i (omega arith) ∙ rw z
 
-pub from_past : (s : List ℕ) (at n i : ℕ) → n ≤ i → get_elem? (entries_from s at n) i ≡ none
+pub from_past : (s : List ℕ) (at n i : ℕ) → n ≤ i → slice_get (entries_from s at n) i ≡ None
 from_past s at zero i h = refl
 from_past s at (suc n) zero h = absurd (omega arith)
 from_past s at (suc n) (suc i) h = from_past s (at + 8) n i (omega arith)
 
--- the entry and its refusal are in locals, and what the whole walk answers is known
-module _ (s : List ℕ) (at least end left : ℕ) (e : Entry) (refusal : ℕ) (want : Answer ℕ)
-    (some : 0 < left) (same : e ≡ entry_at s at) (told : refusal ≡ refusal_of least end e) (whole : end_of least end (entries_from s at left) ≡ want) where
-  here : refusal_of least end (entry_at s at) ≡ refusal
-  here = sym (rw same at told)
+-- the entry that the language finds at an index is the one that the logic does
+pub listed : (es : List Entry) (i : ℕ) (e : Entry) → slice_get es i ≡ Some e → get_elem? es i ≡ some e
+listed [] i e h = cc
+listed (x ∷ es) zero e h = cc
+listed (x ∷ es) (suc i) e h = listed es i e h
 
-  pub end_refused : (refusal ≡ 0 → ⊥) → refused refusal ≡ want
-  end_refused n = rw (from_more s at left some, here, ne_eqb refusal 0 n) at whole
+-- no refusal has the number 0
+pub named : (why : Refusal) → number_of why ≢ 0
+named why h = grind arith
 
-  pub end-next : refusal ≡ 0 → end_of (e.tag + 1) (end + e.length) (entries_from s (at + 8) (left - 1)) ≡ want
-  end-next z = rw same (rw (from_more s at left some, here, eq-eqb refusal 0 z) at whole)
+-- the walk at the entry with an index, where what the whole walk answers is known
+module _ (s : List ℕ) (n index least end : ℕ) (e : Entry) (want : Answer ℕ)
+    (some : index < n) (same : e ≡ entry_at s (2 + 8 * index)) (whole : end_of least end (entries_from s (2 + 8 * index) (n - index)) ≡ want) where
+  first : entries_from s (2 + 8 * index) (n - index) ≡ e ∷ entries_from s (2 + 8 * (index + 1)) (n - (index + 1))
+  first =
+      let a : n - index - 1 ≡ n - (index + 1) = omega arith in
+      let b : 2 + 8 * index + 8 ≡ 2 + 8 * (index + 1) = omega arith in
+      rw (from_more s (2 + 8 * index) (n - index) (omega arith), same, a, b)
+
+  pub end_refused : (why : Refusal) → number_of why ≡ refusal_of least end e → refused (number_of why) ≡ want
+  end_refused why told = let z : refusal_of least end e ≢ 0 = λ z. named why (told ∙ z) in rw (first, ne_eqb (refusal_of least end e) 0 z, ← told) at whole
+
+  pub end-next : 0 ≡ refusal_of least end e → end_of (e.tag + 1) (end + e.length) (entries_from s (2 + 8 * (index + 1)) (n - (index + 1))) ≡ want
+  end-next told = rw (first, eq-eqb (refusal_of least end e) 0 (sym told)) at whole
 
 -- what an entry that nothing refuses shows
 pub record Passed (least at : ℕ) (e : Entry) : Type 0 where

@@ -1,11 +1,11 @@
 -- The contents of a pack: its entries, and what is asked of each.
-use Rattle.std.specs.Prelude.{ℕ, zero, suc, ◌+◌, ◌*◌, List, [], ◌∷◌, ltb, eqb}
+use Rattle.std.specs.Prelude.{ℕ, zero, suc, ◌+◌, ◌*◌, List, [], ◌∷◌, ltb, eqb, Option, Some, None}
 use Rattle.basis.specs.Pick.{pick}
 use Rattle.basis.specs.Answer.{Answer, given, refused}
 use Rattle.basis.specs.Number.{number_at}
+use Rattle.basis.specs.Refusal.{number_of}
+use Rattle.basis.specs.declared.refusal.Refusal.{Refusal}
 use Rattle.pack.specs.declared.Entry.{Entry}
-use Rattle.pack.specs.declared.Bodies.{Bodies}
-use Rattle.pack.specs.declared.Bodies.TheVariants.{End, Refused}
 
 -- where the contents of n entries end: "the first offset is 2 + 8n"
 abbrev pub first_of : ℕ → ℕ
@@ -34,6 +34,11 @@ refusal_of least at e =
     (pick (ltb 16384 e.length) 35
     (pick (eqb e.offset at) 0 33)))
 
+-- the code's answer so: the number of a refusal, 0 for none
+abbrev pub number_or_0 : Option Refusal → ℕ
+number_or_0 None = 0
+number_or_0 (Some why) = number_of why
+
 -- where the bodies end that begin at a place: "Bodies follow in entry order, without gaps"; or what refuses the first bad
 -- entry. Every tag is above the one before; the sums are whole numbers.
 abbrev pub end_of : ℕ → ℕ → List Entry → Answer ℕ
@@ -42,8 +47,3 @@ end_of least at (e ∷ es) =
     pick (eqb (refusal_of least at e) 0)
     (end_of (e.tag + 1) (at + e.length) es)
     (refused (refusal_of least at e))
-
--- the code's answer as 01 gives it
-abbrev pub bodies_answer : Bodies → Answer ℕ
-bodies_answer (End n) = given n
-bodies_answer (Refused n) = refused n

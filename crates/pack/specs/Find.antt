@@ -4,8 +4,6 @@ use Rattle.basis.specs.Pick.{pick}
 use Rattle.basis.specs.Answer.{Answer, given, refused}
 use Rattle.pack.specs.Read.{read_of}
 use Rattle.pack.specs.declared.Entry.{Entry}
-use Rattle.pack.specs.declared.Found.{Found}
-use Rattle.pack.specs.declared.Found.TheVariants.{Program, Refused}
 
 -- the entry with a tag: "36 if the tag is absent"
 abbrev pub sought_in : ℕ → List Entry → Answer Entry
@@ -23,8 +21,3 @@ find_of s tag = found_in tag (read_of s)
 -- "A found program is a part of the pack": the bytes that an entry names, as far as the pack has them
 abbrev pub body_of : List ℕ → Entry → List ℕ
 body_of s e = take e.length (drop e.offset s)
-
--- the code's answer as 01 gives it
-abbrev pub found_answer : Found → Answer Entry
-found_answer (Program e) = given e
-found_answer (Refused n) = refused n

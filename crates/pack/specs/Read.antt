@@ -1,15 +1,10 @@
 -- What the check of a pack answers: its entries, or its refusal.
 use Rattle.std.specs.Prelude.{ℕ, List, length, ltb, eqb}
-use Rattle.std.proofs.Math.Option.{Option, none, some}
 use Rattle.basis.specs.Pick.{pick}
 use Rattle.basis.specs.Answer.{Answer, given, refused}
 use Rattle.basis.specs.Number.{number_at}
 use Rattle.pack.specs.Contents.{first_of, entries_from, end_of}
 use Rattle.pack.specs.declared.Entry.{Entry}
-use Rattle.pack.specs.declared.Checked.{Checked}
-use Rattle.pack.specs.declared.Checked.TheVariants.{Entries, Refused}
-use Rattle.pack.specs.declared.Listed.{Listed}
-use Rattle.pack.specs.declared.Listed.TheVariants as listed
 
 -- "count n", "then n entries"
 abbrev pub count_of : List ℕ → ℕ
@@ -43,13 +38,3 @@ closed_of s (refused n) = refused n
 -- the entries of a pack: "31 too long" first ("At most 24,576 bytes")
 unfoldable pub read_of : List ℕ → Answer (List Entry)
 read_of s = pick (ltb 24576 (length s)) (refused 31) (closed_of s (contents_of s))
-
--- the code's answers as 01 gives them: the count of the entries; one entry, or none where there are not so many
-abbrev pub checked_answer : Checked → Answer ℕ
-checked_answer (Entries n) = given n
-checked_answer (Refused n) = refused n
-
-abbrev pub listed_answer : Listed → Answer (Option Entry)
-listed_answer (listed.Entry e) = given (some e)
-listed_answer listed.Past = given none
-listed_answer (listed.Refused n) = refused n

@@ -1,3 +1,3 @@
 -- Laws of the entries made from lists, as `layout` has them.
 -- Assumes nothing.
-pub use Rattle.layout.proofs.Lists.{Alike, alike-shown, alike-back, laid_none, length-laid, end-sum, refusal-laid, laid_next, sum-next, lists-refused, lists-next}
+pub use Rattle.layout.proofs.Lists.{Alike, alike-shown, alike-back, length-laid, end-sum, refusal-laid, laid_next, sum-next, lists-refused, lists-next}

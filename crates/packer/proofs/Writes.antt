@@ -1,37 +1,23 @@
--- Laws of the writer's answers: each case of its definition, and that each answer of the code stands for one answer of 01.
+-- Laws of the writer's answers: each case of its definition.
 -- Assumes nothing.
-use Prim.Native.Nat.{ℕ, ◌+◌, ◌≤◌, ◌<◌}
+use Prim.Native.Nat.{ℕ, ◌+◌, ◌≤◌}
 use native.Mathlib.Omega.{arith}
 use mathlib.Core.Path.{◌≡◌, refl, sym, ap, ◌∙◌}
 use mathlib.Core.Bool.{Bool, true, false}
 use mathlib.Core.List.{List}
 use lib.Dec.{ltb, eqb}
 use lib.ListN.{length}
-use borrow.Author.Tests.{le-ltb, le-leb, lt-leb, eq-eqb, ne_eqb, ltb-false, eqb-true}
+use borrow.Author.Tests.{le-ltb, eq-eqb, ltb-false, eqb-true}
 use Rattle.basis.specs.Answer.{Answer, given, refused, seen}
 use Rattle.basis.proofs.Tests.{refused-given, given-one}
 use Rattle.pack.specs.Contents.{first_of, end_of}
 use Rattle.pack.specs.Format.{pack_of}
 use Rattle.pack.specs.declared.Entry.{Entry}
-use Rattle.packer.specs.Write.{laid_of, alike, ended_of, write_of, written_answer}
-use Rattle.packer.specs.declared.Written.{Written}
-use Rattle.packer.specs.declared.Written.TheVariants.{Bytes, Refused}
+use Rattle.packer.specs.Write.{laid_of, alike, ended_of, write_of}
 use Rattle.packer.proofs.Lists.{Alike, alike-shown, alike-back, length-laid}
 use Rattle.packer.proofs.Puts.{length-pack}
 
 module _ (tags cells lengths bodies : List ℕ) (room : ℕ) where
-  pub over : 64 < length tags → write_of tags cells lengths bodies room ≡ refused 30
-  unfolding write_of
-  over h = rw (lt-leb _ _ h)
-
-  pub unlike-cells : length tags ≤ 64 → (length cells ≡ length tags → ⊥) → write_of tags cells lengths bodies room ≡ refused 30
-  unfolding write_of
-  unlike-cells h n = rw (le-leb _ _ h, ne_eqb _ _ n)
-
-  pub unlike-lengths : length tags ≤ 64 → length cells ≡ length tags → (length lengths ≡ length tags → ⊥) → write_of tags cells lengths bodies room ≡ refused 30
-  unfolding write_of
-  unlike-lengths h e n = rw (le-leb _ _ h, eq-eqb _ _ e, ne_eqb _ _ n)
-
   pub like : Alike tags cells lengths → (a : Answer ℕ) → end_of 0 (first_of (length tags)) (laid_of tags cells lengths) ≡ a
       → write_of tags cells lengths bodies room ≡ ended_of room (laid_of tags cells lengths) bodies a
   unfolding write_of
@@ -96,10 +82,3 @@ given-write tags cells lengths bodies room n h = by (write_of tags cells lengths
     by : (a : Answer (List ℕ)) → write_of tags cells lengths bodies room ≡ a → write_of tags cells lengths bodies room ≡ given (pack_of (laid_of tags cells lengths) bodies)
     by (refused k) p = absurd (refused-given k n (rw p at h))
     by (given bytes) p = p ∙ ap given (took tags cells lengths bodies room bytes p).same
-
--- Each answer of the code stands for one answer of 01.
-pub written_one : (a b : Written) → written_answer a ≡ written_answer b → a ≡ b
-written_one (Bytes n) (Bytes m) e = cc
-written_one (Bytes n) (Refused k) e = absurd (let z : ◌≡◌ {A = ℕ} 0 1 = cc in omega arith)
-written_one (Refused k) (Bytes m) e = absurd (let z : ◌≡◌ {A = ℕ} 0 1 = cc in omega arith)
-written_one (Refused k) (Refused l) e = cc

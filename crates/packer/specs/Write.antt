@@ -7,8 +7,6 @@ use Rattle.pack.specs.Contents.{first_of, end_of}
 use Rattle.pack.specs.Format.{pack_of}
 use Rattle.pack.specs.declared.Entry.{Entry}
 pub use Rattle.layout.specs.Layout.{entry_of, laid, laid_of, sum_of, alike}
-use Rattle.packer.specs.declared.Written.{Written}
-use Rattle.packer.specs.declared.Written.TheVariants.{Bytes, Refused}
 
 -- where the bodies end, or the refusal of an entry, is known: "34, 31, 25"
 abbrev pub ended_of : ℕ → List Entry → List ℕ → Answer ℕ → Answer (List ℕ)
@@ -24,8 +22,3 @@ unfoldable pub write_of : List ℕ → List ℕ → List ℕ → List ℕ → �
 write_of tags cells lengths bodies room =
     let es = laid_of tags cells lengths in
     pick (alike tags cells lengths) (ended_of room es bodies (end_of 0 (first_of (length tags)) es)) (refused 30)
-
--- the code's answer as 01 gives it: the length
-abbrev pub written_answer : Written → Answer ℕ
-written_answer (Bytes n) = given n
-written_answer (Refused n) = refused n

@@ -1,3 +1,2 @@
 -- What is proved of `pending`.
-pub mod Digits
 pub mod Words

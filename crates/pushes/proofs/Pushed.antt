@@ -1,6 +1,6 @@
 -- Values pushed one after the other: one step, the number of their bytes, and that they are those of the instruction.
 -- Assumes nothing.
-use Prim.Native.Nat.{ℕ, zero, suc, ◌+◌, ◌-◌, ◌/◌, ◌%◌, ◌^◌, ◌<◌, ◌≤◌}
+use Prim.Native.Nat.{ℕ, zero, suc, ◌+◌, ◌/◌, ◌%◌, ◌^◌, ◌<◌, ◌≤◌}
 use native.Mathlib.Omega.{arith}
 use native.Mathlib.Nat.{pow-suc}
 use mathlib.Core.Path.{◌≡◌, refl}
@@ -13,15 +13,13 @@ use Rattle.effects.specs.Memory.{pushed}
 use Rattle.pushes.specs.Values.{values_at, values_from, bytes_in}
 
 -- one value, and the others
-pub bytes-step : (left rest : ℕ) → 0 < left → bytes_in left rest ≡ 1 + rest % 2 + bytes_in (left - 1) (rest / 2)
-bytes-step zero rest h = omega arith
-bytes-step (suc n) rest h = let e : suc n - 1 ≡ n = omega arith in rw e
+pub bytes-step : (left n rest : ℕ) → left ≡ suc n → bytes_in left rest ≡ 1 + rest % 2 + bytes_in n (rest / 2)
+bytes-step left n rest h = rw h
 
 pub push_step :
-    (left rest place d : ℕ) → 0 < left → (s k : List ℕ) {k₁ e : List ℕ} → k₁ ≡ pushed k d (number_at (1 + rest % 2) s place ∷ [])
-    → pushed k d (values_from left rest s place) ≡ e → pushed k₁ (d + 1) (values_from (left - 1) (rest / 2) s (place + (1 + rest % 2))) ≡ e
-push_step zero rest place d h s k p q = absurd (omega arith)
-push_step (suc n) rest place d h s k p q = let e : suc n - 1 ≡ n = omega arith in rw (e, p) q
+    (left n rest place d : ℕ) → left ≡ suc n → (s k : List ℕ) {k₁ e : List ℕ} → k₁ ≡ pushed k d (number_at (1 + rest % 2) s place ∷ [])
+    → pushed k d (values_from left rest s place) ≡ e → pushed k₁ (d + 1) (values_from n (rest / 2) s (place + (1 + rest % 2))) ≡ e
+push_step left n rest place d h s k p q = rw p (rw h at q)
 
 -- "one, plus the count, plus the number of set flags", but for the one
 pub bytes-ones : (count flags : ℕ) → flags < 2 ^ count → bytes_in count flags ≡ count + ones flags

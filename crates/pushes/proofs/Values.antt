@@ -10,7 +10,7 @@ use lib.Seq.{get_or-drop, length-take-le}
 use lib.Pow.{pow_pos}
 use lib.Count.{ones}
 use borrow.Author.Tests.{lt-ltb, le-ltb, lt-leb, ne_eqb}
-use Rattle.basis.specs.Answer.{given}
+use Rattle.basis.specs.Answer.{given, refused}
 use Rattle.basis.specs.Number.{number_at}
 use Rattle.forms.specs.Form.{form_of, code_of, count_in, flags_in, length_of}
 use Rattle.forms.specs.declared.Form.TheVariants.{Values}
@@ -20,8 +20,8 @@ use Rattle.decoder.specs.Refusals.{Inside, illegal_first, cut}
 use Rattle.decoder.proofs.Refuses.{why-refusal}
 use Rattle.effects.specs.Memory.{pushed}
 use Rattle.effects.specs.Effect.{goes}
-use Rattle.effects.specs.Act.{done, do_of, act_of}
-use Rattle.effects.specs.declared.Move.TheVariants.{To, Fault}
+use Rattle.effects.specs.Act.{became, do_of, act_of}
+use Rattle.effects.specs.declared.Move.TheVariants.{To}
 use Rattle.effects.proofs.Opens.{full, left}
 use Rattle.pushes.specs.Values.{values_at}
 
@@ -69,7 +69,7 @@ module _ {program : List ℕ} {address b : ℕ} (i : Inside program address b) (
   values = values_at count flags program (address + 1)
 
   -- 2
-  pub values-illegal : (flags / 2 ^ count ≡ 0 → ⊥) → act_of program address depth mem cells ≡ done (Fault 2 0) mem cells
+  pub values-illegal : (flags / 2 ^ count ≡ 0 → ⊥) → act_of program address depth mem cells ≡ became (refused 2) mem cells
   unfolding act_of
   values-illegal f = rw (why-refusal program address 2 (illegal_first i (no_length b h (one-past flags count f))))
 
@@ -78,7 +78,7 @@ module _ {program : List ℕ} {address b : ℕ} (i : Inside program address b) (
     long = values_length b h (none-past flags count f)
 
     -- 3
-    pub values-cut : length program < address + 1 + count + ones flags → act_of program address depth mem cells ≡ done (Fault 3 0) mem cells
+    pub values-cut : length program < address + 1 + count + ones flags → act_of program address depth mem cells ≡ became (refused 3) mem cells
     unfolding act_of
     values-cut l = let e = long in rw (why-refusal program address 3 (cut i (omega arith) (omega arith)))
 
@@ -107,11 +107,11 @@ module _ {program : List ℕ} {address b : ℕ} (i : Inside program address b) (
       length-values = length-take-le count _ (omega arith)
 
       -- 5
-      pub values-full : length cells < depth + count → act_of program address depth mem cells ≡ done (Fault 5 0) mem cells
+      pub values-full : length cells < depth + count → act_of program address depth mem cells ≡ became (refused 5) mem cells
       values-full r = let v = length-values in act-push ∙ full program (address + length_of b) (Push values) depth mem cells (omega arith) (omega arith)
 
       pub values-done :
-          depth + count ≤ length cells → act_of program address depth mem cells ≡ done (To (address + 1 + count + ones flags) (depth + count)) mem (pushed cells depth values)
+          depth + count ≤ length cells → act_of program address depth mem cells ≡ became (given (To (address + 1 + count + ones flags) (depth + count))) mem (pushed cells depth values)
       values-done r =
           let v = length-values in
           let k = long in

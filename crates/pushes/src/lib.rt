@@ -1,4 +1,5 @@
 // The push of one to four values, C0 to FF.
+// Stays: `depth` and `cells` as two arguments, tried in stack as one struct, whose line says what failed.
 #![tactic(auto)]
 
 ghost use Rattle.std.specs.Prelude.{◌≡◌, List, [], ◌∷◌, ℕ, ◌+◌, ◌≤◌, ◌<◌, length};
@@ -8,9 +9,11 @@ ghost use Rattle.effects.specs.Memory.{pushed};
 ghost use Rattle.effects.specs.Act.{done, act_of};
 ghost use Rattle.pushes.specs.Values.{values_from, bytes_in};
 
+use basis::Refusal;
 use effects::Move;
 
 // Pushes the number in the `width` bytes of the program from `at`; the place after them.
+// Stays: a width with its bound, as basis has it.
 fn push_number(width: usize, program: &[u8], at: usize, depth: usize, cells: &mut [u16]) -> usize
     requires { (width ≤ 2) × (at + width ≤ length program.now) × (depth < length cells.old) }
     ensures value { result ≡ at + width }
@@ -46,15 +49,11 @@ fn push_all(
     ensures value { result ≡ at + bytes_in count flags }
     ensures cells_after { cells.new ≡ pushed cells.old depth (values_from count flags program.now at) }
 {
-    let mut left = count;
     let mut rest = flags;
     let mut place = at;
-    let mut top = depth;
-    while 0 < left {
-        place = push_value(rest % 2, program, place, top, cells);
-        top += 1;
-        rest = rest / 2;
-        left -= 1;
+    for k in 0..count as usize {
+        place = push_value(rest % 2, program, place, depth + k, cells);
+        rest /= 2;
     }
     place
 }
@@ -66,23 +65,23 @@ pub fn push_values(
     address: usize,
     depth: usize,
     cells: &mut [u16],
-) -> Move
+) -> Result<Move, Refusal>
     requires { (Inside program.now address first) × (192 ≤ first) × (depth ≤ length cells.old) }
     ensures { (mem : List ℕ) → done result mem cells.new ≡ act_of program.now address depth mem cells.old }
 {
     let count = first % 4 + 1;
     let flags = first / 4 % 16;
     if flags >> count != 0 {
-        return Move::Fault(2, 0);
+        return Err(Refusal::Illegal);
     }
     let end = address + 1 + count as usize + u8::count_ones(flags) as usize;
     if program.len() < end {
-        return Move::Fault(3, 0);
+        return Err(Refusal::Cut);
     }
     if cells.len() - depth < count as usize {
-        return Move::Fault(5, 0);
+        return Err(Refusal::TooMany);
     }
     // it is `end`, told by the last value's place
     let next = push_all(count, flags, program, address + 1, depth, cells);
-    Move::To(next, depth + count as usize)
+    Ok(Move::To(next, depth + count as usize))
 }

@@ -1,8 +1,9 @@
 -- What a reader gives, and where it then stands.
-use Rattle.std.specs.Prelude.{ℕ, ◌+◌, List}
+use Rattle.std.specs.Prelude.{ℕ, ◌+◌, List, Result}
 use Rattle.basis.specs.Answer.{Answer, given, refused}
-use Rattle.decoder.specs.Decode.{Reading, decode_of, decoded_answer}
-use Rattle.decoder.specs.declared.Decoded.{Decoded}
+use Rattle.basis.specs.Refusal.{answer_of}
+use Rattle.basis.specs.declared.refusal.Refusal.{Refusal}
+use Rattle.decoder.specs.Decode.{Reading, decode_of}
 
 -- past the instruction that was read; "on a refusal it doesn't move"
 abbrev pub after_of : Answer Reading → ℕ → ℕ
@@ -14,5 +15,5 @@ abbrev pub turn_of : List ℕ → ℕ → Answer Reading × ℕ
 turn_of program at = (decode_of program at, after_of (decode_of program at) at)
 
 -- the code's answer and the address where the reader then stands, as 01 gives them
-abbrev pub turn_answer : Decoded → ℕ → Answer Reading × ℕ
-turn_answer d at = (decoded_answer d, at)
+abbrev pub turn_answer : Result Reading Refusal → ℕ → Answer Reading × ℕ
+turn_answer d at = (answer_of d, at)

@@ -2,12 +2,15 @@
 #![tactic(auto)]
 
 ghost use Rattle.std.specs.Prelude.{◌≡◌};
-ghost use Rattle.decoder.specs.Decode.{decode_of, decoded_answer};
+ghost use Rattle.basis.specs.Refusal.{answer_of};
+ghost use Rattle.decoder.specs.Decode.{decode_of};
 ghost use Rattle.reader.specs.Turn.{turn_of, turn_answer};
 
-use decoder::Decoded;
+use basis::Refusal;
+use isa::Instruction;
 
 // A program, and the address of the next instruction to be read.
+// Stays: what may not change (docs/DECISIONS.md names `new`, `next`, `peek`, `first` and `asked` as functions of the module).
 #[derive(Clone, Copy)]
 pub struct Reader<'a> {
     pub program: &'a [u8],
@@ -17,60 +20,57 @@ pub struct Reader<'a> {
 // What a reader gives: the decoder's answer at its address, and the address where it then stands.
 #[derive(Clone, Copy)]
 pub struct Turn {
-    pub answer: Decoded,
+    pub answer: Result<(Instruction, usize), Refusal>,
     pub at: usize,
 }
 
 // What a reader of a program gives that stands at an address.
+#[tactic(auto, using(decoder::proofs::Lengths::read_length))]
 pub fn turn_at(program: &[u8], at: usize) -> Turn
     ensures { turn_answer result.answer result.at ≡ turn_of program.now at }
 {
     let answer = decoder::decode(program, at);
     match answer {
-        Decoded::Read(_, n) => Turn { answer, at: at + n },
-        Decoded::Refused(_) => Turn { answer, at },
+        Ok((_, n)) => Turn { answer, at: at + n },
+        Err(_) => Turn { answer, at },
     }
 }
 
 // A reader of a program, at address 0.
-pub fn new<'a>(program: &'a [u8]) -> Reader<'a>
+pub fn new(program: &[u8]) -> Reader<'_>
     ensures { (result.program ≡ program.entry) × (result.at ≡ 0) }
 {
     Reader { program, at: 0 }
 }
 
 // What stands where a reader is; the reader stays.
-pub fn peek<'a>(r: Reader<'a>) -> Decoded
-    ensures { decoded_answer result ≡ decode_of r.entry.program.now r.entry.at }
+pub fn peek(r: Reader) -> Result<(Instruction, usize), Refusal>
+    ensures { answer_of result ≡ decode_of r.entry.program.now r.entry.at }
 {
-    let at = r.at;
-    decoder::decode(r.program, at)
+    decoder::decode(r.program, r.at)
 }
 
 // What stands where a reader is; the reader moves past it, and on a refusal it stays.
-pub fn next<'s, 'a>(r: &'s mut Reader<'a>) -> Decoded
+pub fn next(r: &mut Reader) -> Result<(Instruction, usize), Refusal>
     ensures { (r.new.program ≡ r.old.program) × (turn_answer result r.new.at ≡ turn_of r.old.program.now r.old.at) }
 {
-    let before = r.at;
-    let t = turn_at(r.program, before);
+    let t = turn_at(r.program, r.at);
     r.at = t.at;
     t.answer
 }
 
 // What a new reader of a program stands at; a caller of this holds no reader.
-pub fn first(program: &[u8]) -> Decoded
-    ensures { decoded_answer result ≡ decode_of program.now 0 }
+pub fn first(program: &[u8]) -> Result<(Instruction, usize), Refusal>
+    ensures { answer_of result ≡ decode_of program.now 0 }
 {
-    peek(Reader { program, at: 0 })
+    peek(new(program))
 }
 
 // What a reader that stands at an address gives, and where it then stands; a caller of this holds no reader.
 pub fn asked(program: &[u8], at: usize) -> Turn
     ensures { turn_answer result.answer result.at ≡ turn_of program.now at }
 {
-    let mut r = new(program);
-    r.at = at;
+    let mut r = Reader { program, at };
     let answer = next(&mut r);
-    let after = r.at;
-    Turn { answer, at: after }
+    Turn { answer, at: r.at }
 }

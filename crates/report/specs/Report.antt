@@ -8,8 +8,6 @@ use Rattle.pack.specs.Find.{body_of}
 use Rattle.pack.specs.declared.Entry.{Entry}
 use Rattle.rulings.specs.Rulings.{verified_in, Ruling, rulings_of}
 use Rattle.verdicts.specs.Line.{line_of, pack_line_of}
-use Rattle.report.specs.declared.Reported.{Reported}
-use Rattle.report.specs.declared.Reported.TheVariants.{Written, Refused}
 
 -- "`TTTT accepted` or `TTTT refused N at AAAA` for each entry"
 abbrev pub lines_of : List Ruling → List ℕ
@@ -46,8 +44,3 @@ write_of pack cells n = pick (ltb cells 16384) (refused 23) (fitted n (report_of
 -- the map at the end: untouched by 23; 25 is found only after all entries
 unfoldable pub map_of : List ℕ → List ℕ → List ℕ
 map_of pack map = pick (ltb (length map) 16384) map (map_in pack (read_of pack) map)
-
--- the code's answer: the length
-abbrev pub reported_answer : Reported → Answer ℕ
-reported_answer (Written n) = given n
-reported_answer (Refused n) = refused n

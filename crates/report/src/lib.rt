@@ -1,72 +1,73 @@
 // The report on a rule pack: what the verifier says of each program, a line for each, written into a lent room.
 #![tactic(auto)]
 
-ghost use Rattle.std.specs.Prelude.{◌≡◌, ◌+◌, ◌≤◌, length};
+ghost use Rattle.std.specs.Prelude.{◌≡◌, ◌≤◌, length};
 ghost use Rattle.basis.specs.Answer.{seen};
+ghost use Rattle.basis.specs.Refusal.{answer_of};
 ghost use Rattle.basis.specs.Room.{room_after};
-ghost use Rattle.text.specs.Put.{Put};
+ghost use Rattle.text.specs.Pen.{Puts, HasPlace};
 ghost use Rattle.pack.specs.Read.{read_of};
 ghost use Rattle.pack.specs.Find.{body_of};
 ghost use Rattle.verdicts.specs.Line.{line_of};
 ghost use Rattle.rulings.specs.Rulings.{judged_of};
-ghost use Rattle.report.specs.Report.{laid_over, report_of, map_in, write_of, map_of, reported_answer};
+ghost use Rattle.report.specs.Report.{laid_over, report_of, map_in, write_of, map_of};
 
-use pack::{Entry, Listed};
+use basis::Refusal;
+use pack::Entry;
+use text::Pen;
 
-// What became of a report: the bytes written, or a refusal's number.
-#[derive(Clone, Copy)]
-pub enum Reported {
-    Written(usize),
-    Refused(usize),
-}
-
-// Verifies the program of an entry over the first cells of `map`, and puts its line into `room` from `at`; the place after it.
-fn put_entry(pack: &[u8], e: Entry, map: &mut [u16], room: &mut [u8], at: usize) -> usize
-    requires { (length (body_of pack.now e) ≤ length map.old) × (at + 24 ≤ length room.old) }
-    ensures put { Put (line_of e.tag (judged_of pack.now e)) room.old at room.new result }
+// Verifies the program of an entry over the first cells of `map`, and puts its line.
+fn put_entry(pack: &[u8], e: Entry, map: &mut [u16], pen: &mut Pen)
+    requires { (length (body_of pack.now e) ≤ length map.old) × HasPlace pen.old 24 }
+    ensures put { Puts (line_of e.tag (judged_of pack.now e)) pen.old pen.new }
     ensures map_after { map.new ≡ laid_over pack.now e map.old }
 {
     let program = pack::body(pack, e);
     let n = program.len();
     let verdict = verifier::verify(program, e.cells as usize, &mut map[..n]);
-    verdicts::put_line(e.tag, verdict, room, at)
+    verdicts::put_line(e.tag, verdict, pen);
 }
 
-// Puts the report on a pack at the start of `room`; its length.
-fn put_report(pack: &[u8], map: &mut [u16], room: &mut [u8]) -> usize
-    requires { (16384 ≤ length map.old) × (1536 ≤ length room.old) }
-    ensures put { Put (report_of pack.now) room.old 0 room.new result × (result ≤ 1536) }
+// Puts the report on a pack.
+fn put_report(pack: &[u8], map: &mut [u16], pen: &mut Pen)
+    requires { (16384 ≤ length map.old) × HasPlace pen.old 1536 }
+    ensures put { Puts (report_of pack.now) pen.old pen.new × (length (report_of pack.now) ≤ 1536) }
     ensures map_after { map.new ≡ map_in pack.now (read_of pack.now) map.old }
 {
-    let mut next = 0;
-    let mut index = 0;
-    loop {
-        match pack::entry_at(pack, index) {
-            Listed::Entry(e) => {
-                next = put_entry(pack, e, map, room, next);
-                index += 1;
-            }
-            Listed::Past => return next,
-            Listed::Refused(number) => return verdicts::put_pack_line(number, room, next),
-        }
+    let n = match pack::check(pack) {
+        Ok(n) => n,
+        Err(why) => return verdicts::put_pack_line(usize::from(why), pen),
+    };
+    // Stays: by index: an iterator over a checked pack is no plainer, it would be one more type with a fact of the whole pack.
+    for index in 0..n {
+        let Ok(Some(e)) = pack::entry_at(pack, index) else {
+            unreachable!()
+        };
+        put_entry(pack, e, map, pen);
     }
 }
 
-// Writes the report on a pack at the start of a room, or refuses and leaves the room as it was.
+// Writes the report on a pack at the start of a room, or refuses and leaves the room as it was: its length.
 #[tactic(auto, unfolding(crate::specs::Report::write_of, crate::specs::Report::map_of))]
-pub fn write(pack: &[u8], map: &mut [u16], room: &mut [u8]) -> Reported
-    ensures result_value { reported_answer result ≡ seen length (write_of pack.now (length map.old) (length room.old)) }
+pub fn write(pack: &[u8], map: &mut [u16], room: &mut [u8]) -> Result<usize, Refusal>
+    ensures result_value { answer_of result ≡ seen length (write_of pack.now (length map.old) (length room.old)) }
     ensures room_after { room.new ≡ room_after (write_of pack.now (length map.old) (length room.old)) room.old }
     ensures map_after { map.new ≡ map_of pack.now map.old }
 {
     if map.len() < 16384 {
-        return Reported::Refused(23);
+        return Err(Refusal::MapLength);
     }
+    // Stays: a fixed room: what the library for C contains takes no heap, and no report is longer (`report-max`).
     let mut lines = [0u8; 1536];
-    let n = put_report(pack, map, &mut lines);
+    let mut pen = Pen {
+        room: &mut lines,
+        at: 0,
+    };
+    put_report(pack, map, &mut pen);
+    let n = pen.at;
     if room.len() < n {
-        return Reported::Refused(25);
+        return Err(Refusal::ShortRoom);
     }
-    text::put_text(&lines[0..n], room, 0);
-    Reported::Written(n)
+    basis::put_bytes(&lines[..n], room, 0);
+    Ok(n)
 }

@@ -21,7 +21,7 @@ use Rattle.effects.specs.Effect.{fails, leaves, place_of, holds, effect_of}
 use Rattle.effects.specs.Act.{on_effect, do_of, act_of}
 use Rattle.effects.specs.Act.{on_reading as doing}
 use Rattle.effects.specs.declared.Move.{Move}
-use Rattle.effects.specs.declared.Move.TheVariants.{To, Halt, Fault}
+use Rattle.effects.specs.declared.Move.TheVariants.{To, Halt}
 use Rattle.effects.proofs.Opens.{opened}
 use Rattle.paths.specs.Paths.{hop, Outcome, bad, leads, In, here, there}
 use Rattle.look.specs.Look.{is_nine, on_way, look_at, on_reading, look_of}
@@ -29,14 +29,14 @@ use Rattle.isa.specs.Op as op
 use Rattle.isa.specs.declared.Route.TheVariants as route
 
 -- the move of an instruction met at depth d is one that the rule's outcome foresees
-abbrev pub Foreseen : ℕ → Outcome → Move → Type 0
+abbrev pub Foreseen : ℕ → Outcome → Answer Move → Type 0
 Foreseen d (bad k) made = Unit {0}
-Foreseen d (leads hs) (To a e) = In a e hs
-Foreseen d (leads hs) (Halt z e) = e ≡ d
-Foreseen d (leads hs) (Fault k z) = (k ≡ 6) ⊎ (k ≡ 7)
+Foreseen d (leads hs) (given (To a e)) = In a e hs
+Foreseen d (leads hs) (given (Halt e)) = e ≡ d
+Foreseen d (leads hs) (refused k) = (k ≡ 6) ⊎ (k ≡ 7)
 
 -- an instruction that the stack check refuses is refused
-shut : (d next k : ℕ) (w : Way) (made : Move) → Foreseen d (on_way next w (refused k)) made
+shut : (d next k : ℕ) (w : Way) (made : Answer Move) → Foreseen d (on_way next w (refused k)) made
 shut d next k w made = by (is_nine w)
   where
     by : (t : Bool) → Foreseen d (pick t (bad 9) (bad k)) made

@@ -7,10 +7,11 @@ use mathlib.Core.Logic.{◌≢◌}
 use mathlib.Core.Bool.{Bool, true, false}
 use mathlib.Core.List.{List}
 use lib.ListN.{length, get_or}
+use Rattle.basis.specs.Answer.{Answer, given, refused}
 use Rattle.basis.specs.Pick.{pick}
 use Rattle.effects.specs.Act.{act_of}
 use Rattle.effects.specs.declared.Move.{Move}
-use Rattle.effects.specs.declared.Move.TheVariants.{To, Halt, Fault}
+use Rattle.effects.specs.declared.Move.TheVariants.{To, Halt}
 use Rattle.machine.specs.Machine.{Machine, machine, fresh, state_after, step_of}
 use Rattle.machine.specs.Run.{came, is_running, is_faulted, run_of, outcome_of}
 use Rattle.machine.specs.Refusals.{Allowed}
@@ -26,10 +27,10 @@ module _ (program : List ℕ) (cells : ℕ) (map : List ℕ) (s : Sealed program
   -- a move that was foreseen from a safe state leads to a safe state
   moved :
       (st : State) (mem mem' cs : List ℕ) (hs : List Hop) → ((b e : ℕ) → In b e hs → (get_or map b 65535 ≡ e) × (e ≢ 65535))
-      → get_or map st.address 65535 ≡ st.depth → st.depth ≢ 65535 → (made : Move) → Foreseen st.depth (leads hs) made → Safe map (machine (state_after st made) mem' cs)
-  moved st mem mem' cs hs onto at mark (To a e) f = record { status = tt; depth = (onto a e f).0; marked = (onto a e f).1 }
-  moved st mem mem' cs hs onto at mark (Halt z e) f = record { status = tt; depth = at ∙ sym f; marked = λ q. mark (sym f ∙ q) }
-  moved st mem mem' cs hs onto at mark (Fault k z) f = record { status = f; depth = at; marked = mark }
+      → get_or map st.address 65535 ≡ st.depth → st.depth ≢ 65535 → (made : Answer Move) → Foreseen st.depth (leads hs) made → Safe map (machine (state_after st made) mem' cs)
+  moved st mem mem' cs hs onto at mark (given (To a e)) f = record { status = tt; depth = (onto a e f).0; marked = (onto a e f).1 }
+  moved st mem mem' cs hs onto at mark (given (Halt e)) f = record { status = tt; depth = at ∙ sym f; marked = λ q. mark (sym f ∙ q) }
+  moved st mem mem' cs hs onto at mark (refused k) f = record { status = f; depth = at; marked = mark }
 
   -- a step from a safe state is safe
   step-safe : (m : Machine) → cells ≤ length m.cells → Safe map m → Safe map (step_of program m)

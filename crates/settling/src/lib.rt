@@ -9,45 +9,43 @@ ghost use Rattle.admission.specs.Admission.{mach, judge_of, settled};
 ghost use Rattle.admission.specs.Fit.{Fit};
 
 use admission::Admission;
-use verifier::Verdict;
+use verifier::Rejected;
 
 // The number of a verdict as a cell, 0 where it accepts.
-fn number_of(verdict: Verdict) -> u16
+// Stays: two functions of a verdict are plainer than two impls of `From` for a `u16`, of which a caller could not tell which number it gets.
+fn number_of(verdict: Result<(), Rejected>) -> u16
     ensures { result ≡ number_of (judged_in verdict) }
 {
     match verdict {
-        Verdict::Accepted => 0,
-        Verdict::Refused(n) => (n % 65536) as u16,
-        Verdict::RefusedAt(n, _a) => (n % 65536) as u16,
+        Ok(()) => 0,
+        Err(Rejected::Before(why)) => usize::from(why) as u16,
+        Err(Rejected::At(why, _)) => usize::from(why) as u16,
     }
 }
 
 // The address that a verdict names as a cell, 0 where it names none.
-fn place_of(verdict: Verdict) -> u16
+fn place_of(verdict: Result<(), Rejected>) -> u16
     ensures { result ≡ place_of (judged_in verdict) }
 {
     match verdict {
-        Verdict::Accepted => 0,
-        Verdict::Refused(_n) => 0,
-        Verdict::RefusedAt(_n, a) => (a % 65536) as u16,
+        Err(Rejected::At(_, at)) => (at % 65536) as u16,
+        _ => 0,
     }
 }
 
 // Puts the three cells of a verdict.
-fn put_verdict(tag: u16, verdict: Verdict, verdicts: &mut [u16], at: usize)
+fn put_verdict(tag: u16, verdict: Result<(), Rejected>, verdicts: &mut [u16], at: usize)
     requires { at + 3 ≤ length verdicts.old }
     ensures { verdicts.new ≡ sets verdicts.old at (codes_of tag (judged_in verdict)) }
 {
-    let number = number_of(verdict);
-    let place = place_of(verdict);
-    let second = at + 1;
-    let third = at + 2;
     verdicts[at] = tag;
-    verdicts[second] = number;
-    verdicts[third] = place;
+    verdicts[at + 1] = number_of(verdict);
+    verdicts[at + 2] = place_of(verdict);
 }
 
 // The program whose body is whole gets its verdict.
+// Stays: five things by themselves, as `settle` says.
+#[tactic(auto, unfolding(admission::specs::Admission::judge_of))]
 fn judge(
     st: Admission,
     contents: &[u8],
@@ -71,6 +69,7 @@ fn judge(
 }
 
 // Every program whose body is whole gets its verdict: one, and after it those of no bytes.
+// Stays: what may not change (`settle` takes contents and body by `&`; one struct of all the memory, which `take_byte` writes into, would ask for `&mut`).
 pub fn settle(
     st: Admission,
     contents: &[u8],
@@ -82,10 +81,10 @@ pub fn settle(
     ensures { mach result contents.now body.now map.new verdicts.new ≡ settled (mach st contents.now body.now map.old verdicts.old) }
 {
     let mut now = st;
-    while now.judged < now.programs {
-        if now.have != basis::number_at(2, contents, 8 + 8 * now.judged) as usize {
-            return now;
-        }
+    // Stays: a `while`: it ends by what the next entry says, and not by a count.
+    while now.judged < now.programs
+        && now.have == basis::number_at(2, contents, 8 + 8 * now.judged) as usize
+    {
         now = judge(now, contents, body, map, verdicts);
     }
     now

@@ -12,28 +12,28 @@ use borrow.Author.Tests.{eqb-true, eqb-false}
 use Rattle.basis.specs.Pick.{pick}
 use Rattle.forms.specs.Form.{form_of, code_of, count_in, length_of}
 use Rattle.isa.specs.Shape.{taken_in, pushed_in}
-use Rattle.shapes.specs.declared.Shape.{Shape}
-use Rattle.shapes.specs.declared.Shape.TheVariants.{Row, Illegal}
-use Rattle.shapes.specs.Shapes.{shape_of, numbers_of, rows_from, shape_rows}
+use Rattle.std.specs.Prelude.{Option, Some, None}
+use Rattle.shapes.specs.declared.row.Row.{Row}
+use Rattle.shapes.specs.Shapes.{row, shape_of, numbers_of, rows_from, shape_rows}
 
 -- three numbers stand before the rest
-three : (s : Shape) → length (numbers_of s) ≡ 3
-three (Row l t p) = refl
-three Illegal = refl
+three : (s : Option Row) → length (numbers_of s) ≡ 3
+three (Some r) = refl
+three None = refl
 
-first : (s : Shape) (rest : List ℕ) (k : ℕ) → k < 3 → get_or (numbers_of s ++ rest) k 0 ≡ get_or (numbers_of s) k 0
-first (Row l t p) rest zero h = refl
-first (Row l t p) rest (suc zero) h = refl
-first (Row l t p) rest (suc (suc zero)) h = refl
-first (Row l t p) rest (suc (suc (suc k))) h = absurd (omega arith)
-first Illegal rest zero h = refl
-first Illegal rest (suc zero) h = refl
-first Illegal rest (suc (suc zero)) h = refl
-first Illegal rest (suc (suc (suc k))) h = absurd (omega arith)
+first : (s : Option Row) (rest : List ℕ) (k : ℕ) → k < 3 → get_or (numbers_of s ++ rest) k 0 ≡ get_or (numbers_of s) k 0
+first (Some r) rest zero h = refl
+first (Some r) rest (suc zero) h = refl
+first (Some r) rest (suc (suc zero)) h = refl
+first (Some r) rest (suc (suc (suc k))) h = absurd (omega arith)
+first None rest zero h = refl
+first None rest (suc zero) h = refl
+first None rest (suc (suc zero)) h = refl
+first None rest (suc (suc (suc k))) h = absurd (omega arith)
 
-later : (s : Shape) (rest : List ℕ) (j : ℕ) → get_or (numbers_of s ++ rest) (suc (suc (suc j))) 0 ≡ get_or rest j 0
-later (Row l t p) rest j = refl
-later Illegal rest j = refl
+later : (s : Option Row) (rest : List ℕ) (j : ℕ) → get_or (numbers_of s ++ rest) (suc (suc (suc j))) 0 ≡ get_or rest j 0
+later (Some r) rest j = refl
+later None rest j = refl
 
 from-length : (b n : ℕ) → length (rows_from b n) ≡ n * 3
 from-length b zero = refl
@@ -63,24 +63,30 @@ pub record Says (b l t p : ℕ) : Type 0 where
   pub taken : t ≡ taken_in (code_of b)
   pub pushed : p ≡ pushed_in (code_of b) (count_in (form_of (code_of b)) b)
 
-illegal-row : (l t p : ℕ) → Illegal ≡ Row l t p → ⊥
-illegal-row l t p e = let z : ◌≡◌ {A = ℕ} 0 1 = cc in omega arith
+none-row : (r : Row) → None ≡ Some r → ⊥
+none-row r e = let z : ◌≡◌ {A = ℕ} 0 1 = cc in omega arith
 
-pub row-says : (b l t p : ℕ) → Row l t p ≡ shape_of b → Says b l t p
-unfolding shape_of
-row-says b l t p e = by (eqb (length_of b) 0) refl e
-  where
-    by : (u : Bool) → eqb (length_of b) 0 ≡ u → Row l t p ≡ pick u Illegal (Row (length_of b) (taken_in (code_of b)) (pushed_in (code_of b) (count_in (form_of (code_of b)) b))) → Says b l t p
-    by true z q = absurd (illegal-row l t p (sym q))
-    by false z q = let n = eqb-false (length_of b) 0 z in let m : l ≡ length_of b = cc in record { long = m; some = omega arith; taken = cc; pushed = cc }
+-- the row itself, 0 in each place for none
+abbrev row_or : Option Row → Row
+row_or (Some r) = r
+row_or None = row 0 0 0
 
-pub illegal-says : (b : ℕ) → Illegal ≡ shape_of b → length_of b ≡ 0
+pub row-says : (b : ℕ) (r : Row) → Some r ≡ shape_of b → Says b r.length r.taken r.pushed
 unfolding shape_of
-illegal-says b e = by (eqb (length_of b) 0) refl e
+row-says b r e = by (eqb (length_of b) 0) refl e
   where
-    by : (u : Bool) → eqb (length_of b) 0 ≡ u → Illegal ≡ pick u Illegal (Row (length_of b) (taken_in (code_of b)) (pushed_in (code_of b) (count_in (form_of (code_of b)) b))) → length_of b ≡ 0
+    by : (u : Bool) → eqb (length_of b) 0 ≡ u → Some r ≡ pick u None (Some (row (length_of b) (taken_in (code_of b)) (pushed_in (code_of b) (count_in (form_of (code_of b)) b)))) → Says b r.length r.taken r.pushed
+    by true z q = absurd (none-row r (sym q))
+    by false z q = let n = eqb-false (length_of b) 0 z in let w = ap row_or q in let m : r.length ≡ length_of b = ap (λ (x : Row). x.length) w in
+        record { long = m; some = omega arith; taken = ap (λ (x : Row). x.taken) w; pushed = ap (λ (x : Row). x.pushed) w }
+
+pub none-says : (b : ℕ) → None ≡ shape_of b → length_of b ≡ 0
+unfolding shape_of
+none-says b e = by (eqb (length_of b) 0) refl e
+  where
+    by : (u : Bool) → eqb (length_of b) 0 ≡ u → None ≡ pick u None (Some (row (length_of b) (taken_in (code_of b)) (pushed_in (code_of b) (count_in (form_of (code_of b)) b)))) → length_of b ≡ 0
     by true z q = eqb-true (length_of b) 0 z
-    by false z q = absurd (illegal-row _ _ _ q)
+    by false z q = absurd (none-row _ q)
 
 -- the row that the code makes of what it finds in the table
 module _ (rows : List ℕ) (e : rows ≡ shape_rows) (b : ℕ) (h : b < 256) where
@@ -90,22 +96,22 @@ module _ (rows : List ℕ) (e : rows ≡ shape_rows) (b : ℕ) (h : b < 256) whe
   begins : get_or rows (b * 3) 0 ≡ get_or (numbers_of (shape_of b)) 0 0
   begins = let z : b * 3 + 0 ≡ b * 3 = omega arith in rw z at (found 0 (omega arith))
 
-  numbers : (s : Shape) → shape_of b ≡ s → (get_or rows (b * 3) 0 ≡ get_or (numbers_of s) 0 0) × (get_or rows (b * 3 + 1) 0 ≡ get_or (numbers_of s) 1 0) × (get_or rows (b * 3 + 2) 0 ≡ get_or (numbers_of s) 2 0)
+  numbers : (s : Option Row) → shape_of b ≡ s → (get_or rows (b * 3) 0 ≡ get_or (numbers_of s) 0 0) × (get_or rows (b * 3 + 1) 0 ≡ get_or (numbers_of s) 1 0) × (get_or rows (b * 3 + 2) 0 ≡ get_or (numbers_of s) 2 0)
   numbers s q = (rw q at begins, rw q at (found 1 (omega arith)), rw q at (found 2 (omega arith)))
 
-  pub row-none : get_or rows (b * 3) 0 ≡ 0 → Illegal ≡ shape_of b
+  pub row-none : get_or rows (b * 3) 0 ≡ 0 → None ≡ shape_of b
   row-none z = by (shape_of b) refl
     where
-      by : (s : Shape) → shape_of b ≡ s → Illegal ≡ s
-      by (Row l t p) q = let w = (row-says b l t p (sym q)).some in let n = (numbers (Row l t p) q).0 in absurd (omega arith)
-      by Illegal q = refl
+      by : (s : Option Row) → shape_of b ≡ s → None ≡ s
+      by (Some r) q = let w = (row-says b r (sym q)).some in let n = (numbers (Some r) q).0 in absurd (omega arith)
+      by None q = refl
 
-  pub row-some : get_or rows (b * 3) 0 ≢ 0 → Row (get_or rows (b * 3) 0) (get_or rows (b * 3 + 1) 0) (get_or rows (b * 3 + 2) 0) ≡ shape_of b
+  pub row-some : get_or rows (b * 3) 0 ≢ 0 → Some (row (get_or rows (b * 3) 0) (get_or rows (b * 3 + 1) 0) (get_or rows (b * 3 + 2) 0)) ≡ shape_of b
   row-some n = by (shape_of b) refl
     where
-      by : (s : Shape) → shape_of b ≡ s → Row (get_or rows (b * 3) 0) (get_or rows (b * 3 + 1) 0) (get_or rows (b * 3 + 2) 0) ≡ s
-      by (Row l t p) q = let m = numbers (Row l t p) q in let x = m.0 in let y = m.1 in let z = m.2 in cc
-      by Illegal q = absurd (n (numbers Illegal q).0)
+      by : (s : Option Row) → shape_of b ≡ s → Some (row (get_or rows (b * 3) 0) (get_or rows (b * 3 + 1) 0) (get_or rows (b * 3 + 2) 0)) ≡ s
+      by (Some r) q = let m = numbers (Some r) q in rw (m.0, m.1, m.2) refl
+      by None q = absurd (n (numbers None q).0)
 
 -- what an entry of the table says of its row
 pub ruleset row_looks = (row-none, row-some, rows-length)

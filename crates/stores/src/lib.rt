@@ -1,5 +1,6 @@
 // Stores: of a at the number in the code, of b at a and that number, of c at a and b. Each takes its operands, checks 4 and 6, and pushes what it stored.
-#![tactic(auto)]
+// Stays: `width` as a number of bytes with its bounds, as 01 and `Op` count it; an enum needs its number again in each clause and each access, and a const parameter needs the same bounds (dispatch has one, for what is constant there).
+#![tactic(auto, unfolding(effects::specs::Act::do_of, isa::specs::Shape::depth_after))]
 
 ghost use Rattle.std.specs.Prelude.{◌≡◌, List, ℕ, ◌+◌, ◌-◌, ◌%◌, ◌^◌, ◌≤◌, ◌<◌, length};
 ghost use Rattle.isa.specs.Op.{Store};
@@ -7,6 +8,7 @@ ghost use Rattle.effects.specs.Memory.{operand_of};
 ghost use Rattle.effects.specs.Effect.{place_of};
 ghost use Rattle.effects.specs.Act.{done, do_of};
 
+use basis::Refusal;
 use effects::Move;
 use memory::{push, sum};
 
@@ -30,15 +32,15 @@ fn store(
     left: usize,
     data: &mut [u8],
     cells: &mut [u16],
-) -> Move
+) -> Result<Move, Refusal>
     requires { (place < 131072) × (((1 ≤ width) × (width ≤ 2)) × (left < length cells.old)) }
     ensures { (program : List ℕ) (n x depth : ℕ) → n + 1 ≤ depth → left ≡ depth - (n + 1) → place ≡ place_of (operand_of cells.old depth) n x → value ≡ operand_of cells.old depth n → done result «data».new cells.new ≡ do_of program next (Store width n x) depth «data».old cells.old }
 {
     if data.len() < place + width {
-        return Move::Fault(6, 0);
+        return Err(Refusal::DataRange);
     }
     basis::put_number(width, data, place, value);
-    push(kept(width, value), next, left, cells)
+    Ok(push(kept(width, value), next, left, cells))
 }
 
 // A store of a at the number x.
@@ -49,12 +51,12 @@ pub fn store_number(
     depth: usize,
     data: &mut [u8],
     cells: &mut [u16],
-) -> Move
+) -> Result<Move, Refusal>
     requires { (depth ≤ length cells.old) × ((1 ≤ width) × (width ≤ 2)) }
     ensures { (program : List ℕ) → done result «data».new cells.new ≡ do_of program next (Store width 0 x) depth «data».old cells.old }
 {
     if depth < 1 {
-        return Move::Fault(4, 0);
+        return Err(Refusal::TooFew);
     }
     let i = cells.len() - depth;
     store(width, x as usize, cells[i], next, depth - 1, data, cells)
@@ -68,12 +70,12 @@ pub fn store_offset(
     depth: usize,
     data: &mut [u8],
     cells: &mut [u16],
-) -> Move
+) -> Result<Move, Refusal>
     requires { (depth ≤ length cells.old) × ((1 ≤ width) × (width ≤ 2)) }
     ensures { (program : List ℕ) → done result «data».new cells.new ≡ do_of program next (Store width 1 x) depth «data».old cells.old }
 {
     if depth < 2 {
-        return Move::Fault(4, 0);
+        return Err(Refusal::TooFew);
     }
     let i = cells.len() - depth;
     let j = i + 1;
@@ -88,12 +90,12 @@ pub fn store_sum(
     depth: usize,
     data: &mut [u8],
     cells: &mut [u16],
-) -> Move
+) -> Result<Move, Refusal>
     requires { (depth ≤ length cells.old) × ((1 ≤ width) × (width ≤ 2)) }
     ensures { (program : List ℕ) → done result «data».new cells.new ≡ do_of program next (Store width 2 0) depth «data».old cells.old }
 {
     if depth < 3 {
-        return Move::Fault(4, 0);
+        return Err(Refusal::TooFew);
     }
     let i = cells.len() - depth;
     let j = i + 1;

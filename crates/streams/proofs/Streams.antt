@@ -15,7 +15,7 @@ use Rattle.basis.proofs.Tests.{test, same?, given-one, refused-given, refused-on
 use Rattle.pack.specs.Contents.{first_of, entry_at, entries_from, end_of}
 use Rattle.pack.specs.Read.{count_of, contents_of, entries_of, read_of}
 use Rattle.pack.specs.declared.Entry.{Entry}
-use Rattle.pack.proofs.Walks.{from-there, next}
+use Rattle.pack.proofs.Walks.{from-there, next, listed}
 use Rattle.pack.proofs.Sounds.{Sound, read-sound, sound-read}
 use Rattle.rulings.specs.Rulings.{ruling_of, rulings_of}
 use Rattle.rulings.proofs.Prefix.{count-prefix}
@@ -207,7 +207,7 @@ final s t m es o e j h =
     let w = judged-whole s m o j h in
     let f : j < count_of (s ++ t) = rw (count-prefix s t (omega (arith, d.1))) (rw (take_all 24576 s (let l = length-append s t in omega arith)) at w.few) in
     let q : entries_from (s ++ t) 2 (count_of (s ++ t)) ≡ es = given-one _ _ (sym (sound-read (s ++ t) sound) ∙ e) in
-    let u : get_elem? es j ≡ some? (entry_of (s ++ t) j) = rw (← q) (from-there (s ++ t) 2 (count_of (s ++ t)) j f) in
+    let u : get_elem? es j ≡ some? (entry_of (s ++ t) j) = listed es j (entry_of (s ++ t) j) (rw (← q) (from-there (s ++ t) 2 (count_of (s ++ t)) j f)) in
     mapped (ruling_of (s ++ t)) es j (entry_of (s ++ t) j) u ∙ ap some? (sym p.said)
   where
     sound : Sound (s ++ t)

@@ -2,6 +2,7 @@
 -- Assumes nothing.
 use Prim.Native.Nat.{ℕ, ◌+◌}
 use native.Mathlib.Omega.{arith}
+use Rattle.std.specs.Prelude as rust
 use mathlib.Core.Path.{◌≡◌, refl, sym, ap, ◌∙◌}
 use mathlib.Core.Bool.{Bool, true, false}
 use mathlib.Core.List.{List, [], ◌∷◌}
@@ -34,8 +35,8 @@ use Rattle.answers.specs.declared.KhxChecked.{KhxChecked}
 use Rattle.answers.specs.declared.KhxEntry.{KhxEntry}
 use Rattle.answers.specs.Written.{written_in}
 use Rattle.answers.specs.Instructions.{instruction_of, decoded_in, row_in}
-use Rattle.shapes.specs.declared.Shape.{Shape}
-use Rattle.shapes.specs.declared.Shape.TheVariants.{Row, Illegal}
+use Rattle.shapes.specs.declared.row.Row.{Row}
+use Rattle.shapes.specs.Shapes.{row}
 use Rattle.answers.specs.declared.KhxRow.{KhxRow}
 use Rattle.answers.specs.Packs.{checked_in, listed_in}
 use Rattle.answers.specs.Packs as packs
@@ -167,11 +168,11 @@ decoded-in-one (refused k) (given q) x y e = absurd (x (ap (λ (d : KhxDecoded).
 decoded-in-one (refused k) (refused l) x y e = ap (λ (d : KhxDecoded). refused d.refusal) e
 
 -- of a first byte's row
-pub row-in-one : (a b : Shape) → row_in a ≡ row_in b → a ≡ b
-row-in-one (Row l t p) (Row m u q) e = ap (λ (r : KhxRow). Row r.length r.taken r.pushed) e
-row-in-one (Row l t p) Illegal e = absurd (let z = ap (λ (r : KhxRow). r.refusal) e in omega arith)
-row-in-one Illegal (Row m u q) e = absurd (let z = ap (λ (r : KhxRow). r.refusal) e in omega arith)
-row-in-one Illegal Illegal e = refl
+pub row-in-one : (a b : rust.Option Row) → row_in a ≡ row_in b → a ≡ b
+row-in-one (rust.Some a) (rust.Some b) e = ap (λ (r : KhxRow). rust.Some (row r.length r.taken r.pushed)) e
+row-in-one (rust.Some a) rust.None e = absurd (let z = ap (λ (r : KhxRow). r.refusal) e in omega arith)
+row-in-one rust.None (rust.Some b) e = absurd (let z = ap (λ (r : KhxRow). r.refusal) e in omega arith)
+row-in-one rust.None rust.None e = refl
 
 -- of the check of a pack
 pub checked-in-one : (a b : Answer ℕ) → Told a → Told b → checked_in a ≡ checked_in b → a ≡ b

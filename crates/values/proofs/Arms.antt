@@ -7,13 +7,13 @@ use mathlib.Core.List.{List, [], ◌∷◌}
 use lib.Dec.{eqb}
 use lib.Count.{ones}
 use borrow.Author.Tests.{eqb-true, ne_eqb}
+use Rattle.basis.specs.Answer.{refused}
 use Rattle.basis.specs.Pick.{pick}
 use Rattle.basis.proofs.Tables.{span, inside}
 use Rattle.forms.specs.Form.{form_of, code_of, length_of}
 use Rattle.decoder.specs.Refusals.{Inside, illegal_first}
 use Rattle.decoder.proofs.Refuses.{why-refusal}
-use Rattle.effects.specs.Act.{done, act_of}
-use Rattle.effects.specs.declared.Move.TheVariants.{Fault}
+use Rattle.effects.specs.Act.{became, act_of}
 
 -- the first bytes that have an arm, the last first, as a match passes them on to what comes after
 abbrev pub arms : List ℕ
@@ -50,6 +50,6 @@ no_length b h l p =
 -- 2
 pub unarmed :
     {program : List ℕ} {address b : ℕ} → Inside program address b → 192 ≤ b → b < 256 → Past b arms → (depth : ℕ) (mem cells : List ℕ)
-    → act_of program address depth mem cells ≡ done (Fault 2 0) mem cells
+    → act_of program address depth mem cells ≡ became (refused 2) mem cells
 unfolding act_of
 unarmed {program} {address} {b} i h l p depth mem cells = rw (why-refusal program address 2 (illegal_first i (no_length b h l p)))

@@ -1,11 +1,14 @@
 // The push of one to four values by its first byte: an arm for each of the thirty from C0 up that has no flag of an absent value, so that
 // count and flags are known as the arm is compiled. Written by tools/dispatch.
+// Stays: a match, so that each arm's count and flags are constants in it (docs/DECISIONS.md).
+// Stays: `depth` and `cells` as two arguments, tried in stack as one struct, whose line says what failed.
 #![tactic(auto)]
 
 ghost use Rattle.std.specs.Prelude.{◌≡◌, List, ℕ, ◌≤◌, length};
 ghost use Rattle.decoder.specs.Refusals.{Inside};
 ghost use Rattle.effects.specs.Act.{done, act_of};
 
+use basis::Refusal;
 use effects::Move;
 use pushes::push_values;
 
@@ -16,7 +19,7 @@ pub fn push_by_first(
     address: usize,
     depth: usize,
     cells: &mut [u16],
-) -> Move
+) -> Result<Move, Refusal>
     requires { (Inside program.now address first) × (192 ≤ first) × (depth ≤ length cells.old) }
     ensures { (mem : List ℕ) → done result mem cells.new ≡ act_of program.now address depth mem cells.old }
 {
@@ -51,6 +54,6 @@ pub fn push_by_first(
         0xF7 => push_values(0xF7, program, address, depth, cells),
         0xFB => push_values(0xFB, program, address, depth, cells),
         0xFF => push_values(0xFF, program, address, depth, cells),
-        _ => Move::Fault(2, 0),
+        _ => Err(Refusal::Illegal),
     }
 }

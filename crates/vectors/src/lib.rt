@@ -1,7 +1,18 @@
-// What the programs that run vectors share: what a case gives, memories given in pieces, answers said, rooms.
+// What the programs that run vectors share: all cases asked, a case read, its memories laid out, its answer said.
 #![tactic(auto)]
 
-pub mod given;
+mod case;
+mod element;
 pub mod pieces;
-pub mod rooms;
+mod run;
 pub mod said;
+
+pub use case::{Case, part};
+pub use element::{Element, fill, repeated};
+pub use run::run_cases;
+
+// How long a memory of a case may be.
+pub const LONGEST: usize = 65600;
+
+// How long all cases of a program together may be, and the longest listing.
+pub const SHEET: usize = 524288;

@@ -1,96 +1,86 @@
 // A long memory given in pieces: how many (one byte), and for each how often it stands there, its step, its length (two bytes each)
 // and its bytes. Every time that a piece stands there again, the number in its last two bytes is larger by the step, modulo 65536.
-ghost use Rattle.std.specs.Prelude.{◌≤◌};
+ghost use Rattle.std.specs.Prelude.{◌≡◌, ◌+◌, ◌≤◌, length, vec_len, IfOk};
 
-use crate::given;
-
-// How far pieces were read, and how far they reach in their room.
-#[derive(Clone, Copy)]
-pub struct Laid {
-    pub read: usize,
-    pub reach: usize,
-}
-
-// The room holds the bytes from its beginning on.
-fn copy(bytes: &[u8], room: &mut [u8]) {
-    let mut i: usize = 0;
-    while i < room.len() {
-        if bytes.len() <= i {
-            return;
-        }
-        room[i] = bytes[i];
-        i += 1;
-    }
-}
+use crate::{Case, LONGEST};
+use std::alloc::{AllocError, Global};
 
 // The number in the last two bytes is larger by so much.
-fn raise(room: &mut [u8], more: u16) {
-    let n = room.len();
-    if n < 2 {
-        return;
+fn raise(memory: &mut [u8], more: u16) {
+    if let [.., low, high] = memory {
+        let number = u16::from_le_bytes([*low, *high]).wrapping_add(more);
+        [*low, *high] = number.to_le_bytes();
     }
-    let last = n - 2;
-    let number = basis::number_at(2, room, last);
-    basis::put_number(2, room, last, std::num::wrapping_add_u16(number, more));
 }
 
-fn fill_piece(bytes: &[u8], more: u16, room: &mut [u8]) {
-    copy(bytes, room);
-    raise(room, more);
-}
-
-// A piece from a place of the room on; the place behind it, or the same where the room ends before.
-fn put_piece(bytes: &[u8], more: u16, room: &mut [u8], at: usize) -> usize {
-    if room.len() < at {
+// A piece from a place of the room on, unless the room ends before the piece does. The place behind it, or the same.
+fn put_piece(room: &mut [u8], at: usize, piece: &[u8], more: u16) -> usize
+    requires { at ≤ length room.old }
+    ensures reach { result ≤ length room.new }
+    ensures length { length room.new ≡ length room.old }
+{
+    if room.len() - at < piece.len() {
         return at;
     }
-    if room.len() - at < bytes.len() {
-        return at;
-    }
-    let end = at + bytes.len();
-    fill_piece(bytes, more, &mut room[at..end]);
+    let end = at + piece.len();
+    let place = &mut room[at..end];
+    place.copy_from_slice(piece);
+    raise(place, more);
     end
 }
 
-// A piece so many times; the place behind the last.
-fn put_pieces(bytes: &[u8], times: u16, step: u16, room: &mut [u8], start: usize) -> usize {
-    let mut at = start;
-    let mut more: u16 = 0;
-    let mut left = times;
-    while 0 < left {
-        at = put_piece(bytes, more, room, at);
-        more = std::num::wrapping_add_u16(more, step);
-        left -= 1;
-    }
-    at
-}
-
-// The piece at the beginning, from a place of the room on.
-fn lay_piece(piece: &[u8], room: &mut [u8], start: usize) -> Laid
-    ensures { result.read ≤ 65541 }
+// All pieces from the beginning of the room on, but for those that it has no place for. How far they reach.
+pub fn lay_in(case: &mut Case<'_>, room: &mut [u8]) -> usize
+    ensures reach { result ≤ length room.new }
+    ensures length { length room.new ≡ length room.old }
+    ensures read { case.new.at ≤ case.old.at + 16712956 }
 {
-    let times = given::number(piece, 0);
-    let step = given::number(piece, 2);
-    let length = given::number(piece, 4) as usize;
-    let reach = put_pieces(given::part(piece, 6, length), times, step, room, start);
-    Laid {
-        read: 6 + length,
-        reach,
-    }
-}
-
-// All pieces from the beginning of the room on.
-pub fn lay(pieces: &[u8], room: &mut [u8]) -> Laid
-    ensures { result.read ≤ 16712956 }
-{
-    let mut read: usize = 1;
     let mut reach: usize = 0;
-    let mut left = given::byte(pieces, 0);
-    while 0 < left {
-        let laid = lay_piece(given::rest(pieces, read), room, reach);
-        read += laid.read;
-        reach = laid.reach;
-        left -= 1;
+    for _ in 0..case.byte() {
+        let times = case.number();
+        let step = case.number();
+        let length = case.number();
+        let piece = case.part(usize::from(length));
+        for time in 0..times {
+            reach = put_piece(room, reach, piece, time.wrapping_mul(step));
+        }
     }
-    Laid { read, reach }
+    reach
+}
+
+// The memory that all pieces make.
+pub fn lay(alloc: Global, case: &mut Case<'_>) -> Result<Vec<u8>, AllocError>
+    ensures length { IfOk result (λ memory. vec_len memory ≤ LONGEST) }
+    ensures read { case.new.at ≤ case.old.at + 16712956 }
+{
+    let mut memory = vec![in alloc; 0u8; LONGEST]?;
+    let reach = lay_in(case, &mut memory);
+    memory.truncate(reach);
+    Ok(memory)
+}
+
+#[cfg(test)]
+mod tests {
+    use super::*;
+    use std::test::Fail;
+
+    #[test]
+    fn a_piece_thrice_and_one_cut(rt: HostRuntime) -> Result<(), Fail> {
+        let mut case = Case::new(&[2, 3, 0, 1, 0, 3, 0, 9, 255, 0, 1, 0, 0, 0, 2, 0, 7]);
+        let memory = lay(rt.alloc(), &mut case)?;
+        let laid = [9, 255, 0, 9, 0, 1, 9, 1, 1, 7];
+        assert_eq!(rt; memory.as_slice(), laid.as_slice());
+        assert_eq!(rt; case.at, 18);
+        Ok(())
+    }
+
+    #[test]
+    fn a_piece_too_long_is_passed_over(rt: HostRuntime) -> Result<(), Fail> {
+        let mut case = Case::new(&[2, 2, 0, 1, 0, 3, 0, 9, 255, 0, 1, 0, 0, 0, 1, 0, 7]);
+        let mut room = [5u8; 5];
+        assert_eq!(rt; lay_in(&mut case, &mut room), 4);
+        assert_eq!(rt; room.as_slice(), [9, 255, 0, 7, 5].as_slice());
+        assert_eq!(rt; case.at, 17);
+        Ok(())
+    }
 }

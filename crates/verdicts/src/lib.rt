@@ -1,76 +1,76 @@
-// One line of a report, written into a lent room: of an entry of a pack, or of a refused pack.
+// One line of a report, put by a pen: of an entry of a pack, or of a refused pack.
 #![tactic(auto)]
 
-ghost use Rattle.std.specs.Prelude.{◌≡◌, ◌+◌, ◌≤◌, length};
-ghost use Rattle.text.specs.Put.{Put};
-ghost use Rattle.verifier.specs.Verify.{names, judged_in};
+ghost use Rattle.std.specs.Prelude.{ℕ, ◌≡◌, ◌+◌};
+ghost use Rattle.text.specs.Pen.{Puts, HasPlace};
+ghost use Rattle.verifier.specs.Verify.{names, judged_by};
 ghost use Rattle.verdicts.specs.Line.{decimal_of, refused_of, said_of, line_of, pack_line_of};
 
-use text::{put_hex, put_text};
-use verifier::Verdict;
+use text::Pen;
+use verifier::Rejected;
 
-// Puts the decimal digits of a number below 100 into `room` from `at`; the place after them.
-fn put_decimal(number: usize, room: &mut [u8], at: usize) -> usize
-    requires { at + 2 ≤ length room.old }
-    ensures { Put (decimal_of number) room.old at room.new result }
+// Puts the decimal digits of a number below 100.
+// Stays: `write!` is no plainer, as in text: a Result that cannot fail, and std's formatting in the library for C.
+fn put_decimal(number: usize, pen: &mut Pen)
+    requires { HasPlace pen.old 2 }
+    ensures { Puts (decimal_of number) pen.old pen.new }
 {
-    let next = at + 1;
-    if number < 10 {
-        room[at] = 0x30 + number as u8;
-        return next;
+    if 10 <= number {
+        pen.put(0x30 + (number / 10 % 10) as u8);
     }
-    room[at] = 0x30 + (number / 10 % 10) as u8;
-    room[next] = 0x30 + (number % 10) as u8;
-    next + 1
+    pen.put(0x30 + (number % 10) as u8);
 }
 
-// Puts ` refused N` into `room` from `at`; the place after it.
-fn put_refused(number: usize, room: &mut [u8], at: usize) -> usize
-    requires { at + 11 ≤ length room.old }
-    ensures { Put (refused_of number) room.old at room.new result }
+// Puts ` refused N`.
+fn put_refused(number: usize, pen: &mut Pen)
+    requires { HasPlace pen.old 11 }
+    ensures { Puts (refused_of number) pen.old pen.new }
 {
-    let next = put_text(b" refused ", room, at);
-    put_decimal(number, room, next)
+    pen.put_text(b" refused ");
+    put_decimal(number, pen);
 }
 
-// Puts ` refused N at AAAA` into `room` from `at`; the place after it.
-fn put_refused_at(number: usize, address: usize, room: &mut [u8], at: usize) -> usize
-    requires { at + 19 ≤ length room.old }
-    ensures { Put (said_of (names number address)) room.old at room.new result }
+// Puts ` refused N at AAAA`.
+fn put_refused_at(number: usize, address: usize, pen: &mut Pen)
+    requires { HasPlace pen.old 19 }
+    ensures { Puts (said_of (names number address)) pen.old pen.new }
 {
-    let blank = put_refused(number, room, at);
-    let digits = put_text(b" at ", room, blank);
-    put_hex(2, room, digits, (address % 65536) as u16)
+    put_refused(number, pen);
+    pen.put_text(b" at ");
+    pen.put_hex(2, (address % 65536) as u16);
 }
 
-// Puts what is said of a program into `room` from `at`; the place after it.
-fn put_said(verdict: Verdict, room: &mut [u8], at: usize) -> usize
-    requires { at + 19 ≤ length room.old }
-    ensures { Put (said_of (judged_in verdict)) room.old at room.new result }
+// Puts what is said of a program, by whatever error it is rejected.
+#[tactic(auto, unfolding(crate::specs::Line::said_of))]
+fn put_said<E: Into<usize> + Drop>(verdict: Result<(), Rejected<E>>, pen: &mut Pen)
+    requires { HasPlace pen.old 19 }
+    ensures said { (number : E → ℕ) → ((why : E) (n : ℕ) → E.converts why n → n ≡ number why) → Puts (said_of (judged_by number verdict)) pen.old pen.new }
+    ensures place { (n : ℕ) → HasPlace pen.old (19 + n) → HasPlace pen.new n }
 {
     match verdict {
-        Verdict::Accepted => put_text(b" accepted", room, at),
-        Verdict::Refused(number) => put_refused(number, room, at),
-        Verdict::RefusedAt(number, address) => put_refused_at(number, address, room, at),
+        Ok(()) => pen.put_text(b" accepted"),
+        Err(Rejected::Before(why)) => put_refused(why.into(), pen),
+        Err(Rejected::At(why, address)) => put_refused_at(why.into(), address, pen),
     }
 }
 
-// Puts the line of an entry with its verdict into `room` from `at`; the place after it.
-pub fn put_line(tag: u16, verdict: Verdict, room: &mut [u8], at: usize) -> usize
-    requires { at + 24 ≤ length room.old }
-    ensures { Put (line_of tag (judged_in verdict)) room.old at room.new result }
+// Puts the line of an entry with its verdict, by whatever error it is rejected.
+pub fn put_line<E: Into<usize> + Drop>(tag: u16, verdict: Result<(), Rejected<E>>, pen: &mut Pen)
+    requires { HasPlace pen.old 24 }
+    ensures { (number : E → ℕ) → ((why : E) (n : ℕ) → E.converts why n → n ≡ number why) → Puts (line_of tag (judged_by number verdict)) pen.old pen.new }
 {
-    let said = put_hex(2, room, at, tag);
-    let end = put_said(verdict, room, said);
-    put_text(b"\n", room, end)
+    pen.put_hex(2, tag);
+    put_said(verdict, pen);
+    pen.put(b'\n');
 }
 
-// Puts the line of a refused pack into `room` from `at`; the place after it.
-pub fn put_pack_line(number: usize, room: &mut [u8], at: usize) -> usize
-    requires { at + 16 ≤ length room.old }
-    ensures { Put (pack_line_of number) room.old at room.new result }
+// Puts the line of a refused pack.
+// Stays: what may not change (the clause of `put_pack_line` is of any number, and not of a `Refusal` alone).
+pub fn put_pack_line(number: usize, pen: &mut Pen)
+    requires { HasPlace pen.old 16 }
+    ensures { Puts (pack_line_of number) pen.old pen.new }
 {
-    let said = put_text(b"pack", room, at);
-    let end = put_refused(number, room, said);
-    put_text(b"\n", room, end)
+    pen.put_text(b"pack");
+    put_refused(number, pen);
+    pen.put(b'\n');
 }

@@ -1,33 +1,22 @@
 -- `lines::put_line` meets its contract.
 -- Assumes nothing.
-use Prim.Native.Nat.{◌+◌}
 use native.Mathlib.Omega.{arith}
-use mathlib.Core.Path.{◌≡◌, ◌∙◌}
-use lib.ListN.{length, length-set}
-use Rattle.decoder.specs.Decode.{decoded_answer}
-use Rattle.lines.proofs.Written.{length-said, length-line, put-line}
+use mathlib.Core.List.{[], ◌∷◌}
+use Rattle.basis.specs.Refusal.{answer_by}
+use Rattle.text.specs.Pen.{Puts}
+use Rattle.text.proofs.Puts.{puts-append, puts-place}
+use Rattle.lines.specs.Line.{line_of}
+use Rattle.lines.proofs.Written.{length-said, length-line}
 use Rattle.lines.proofs.put_line.Goals as goal
 
-pub put_hex-blank-requires : goal.put_hex-blank-requires
-put_hex-blank-requires c = let a = c.args in (omega arith, omega (arith, length-line 0 (decoded_answer a.d) 0))
-
-pub bounds-room-blank : goal.bounds-room-blank
-bounds-room-blank c = let a = c.args in let h : c.put_hex-blank.result ≡ a.at + 4 = c.put_hex-blank.ensures.next in
-    omega (arith, length-line 0 (decoded_answer a.d) 0)
-
-pub put_said-end-requires : goal.put_said-end-requires
-put_said-end-requires c = let a = c.args in let h : c.put_hex-blank.result ≡ a.at + 4 = c.put_hex-blank.ensures.next in
-    (c.requires.0, simp length-set (omega (arith, length-line 0 (decoded_answer a.d) 0)))
-
-pub bounds-room-end : goal.bounds-room-end
-bounds-room-end c = let a = c.args in let h : c.put_hex-blank.result ≡ a.at + 4 = c.put_hex-blank.ensures.next in
-    let k : length c.put_said-end.new.room ≡ length a.room.now = c.put_said-end.auto.room ∙ simp length-set c.put_hex-blank.auto.room in
-    omega (arith, length-line 0 (decoded_answer a.d) 0, c.put_said-end.ensures.next, length-said (decoded_answer a.d) a.byte)
-
-pub overflow_add-result : goal.overflow_add-result
-overflow_add-result c = let a = c.args in let h : c.put_hex-blank.result ≡ a.at + 4 = c.put_hex-blank.ensures.next in
-    omega (arith, length-line 0 (decoded_answer a.d) 0, c.put_said-end.ensures.next, length-said (decoded_answer a.d) a.byte)
+pub put-requires-2 : goal.put-requires-2
+put-requires-2 g c =
+    let d = answer_by c.requires.0 c.args.answer.now in
+    let before = puts-append c.put_hex.ensures (puts-append c.put.ensures (c.put_said.ensures c.requires.0)) in
+    puts-place _ before (omega (arith, c.requires.1, length-line 0 d 0, length-said d c.args.byte))
 
 pub returns : goal.returns
-returns c = let a = c.args in
-    put-line a.address (decoded_answer a.d) a.byte a.room.now _ _ a.at _ _ c.put_hex-blank.ensures c.put_said-end.ensures
+unfolding line_of
+returns g c number =
+    let ended : Puts (10 ∷ []) c.put_said.new.pen c.put-2.new.self = c.put-2.ensures in
+    puts-append c.put_hex.ensures (puts-append c.put.ensures (puts-append (c.put_said.ensures number) ended))

@@ -1,44 +1,36 @@
 -- `listing::put_lines` meets its contract.
 -- Assumes nothing.
 use native.Mathlib.Omega.{arith}
-use mathlib.Core.Path.{◌≡◌, ap, ◌∙◌}
-use lib.ListN.{length, get_or, length-append}
-use Rattle.decoder.specs.Decode.{decode_of, decoded_answer}
-use Rattle.text.specs.Put.{Put}
-use Rattle.lines.specs.Line.{step_of, line_of}
+use mathlib.Core.Path.{ap}
+use mathlib.Core.List.{◌++◌, append_assoc}
+use lib.ListN.{length, length-append}
+use Rattle.basis.specs.Refusal.{number_of, answer_of}
+use Rattle.text.proofs.Puts.{puts-append, puts-place}
 use Rattle.lines.proofs.Written.{length-any}
-use Rattle.listing.proofs.Listings.{lines-put, step_fits, lines_step, lines_end}
+use Rattle.listing.specs.Walk.{left, text_of}
+use Rattle.listing.specs.declared.walk.Walk.{Walk}
 use Rattle.listing.proofs.put_lines.Goals as goal
 
-pub put_line-next-requires : goal.put_line-next-requires
-put_line-next-requires c = let p = c.args.program.now in let l = c.loop-at in
-    let d : decoded_answer c.decode_by-d.result ≡ decode_of p l.at = c.decode_by-d.ensures in
-    let z = rw length-append at (ap length (lines_step p l.at c.requires.1 c.loop-at-test.true)) in
-    (c.requires.0, rw d (omega (arith, length-any l.at (decode_of p l.at) (get_or p l.at 0))))
+pub put_line-requires : goal.put_line-requires
+put_line-requires c =
+    let x = c.in-Some.place in
+    let so_far = c.loop-place.invariant.so_far in (
+      number_of,
+      puts-place _ so_far.1.0 (omega (
+        arith,
+        c.requires,
+        ap (λ (w : Walk). length (left w)) c.into_iter-place-iterator.ensures.into_iter_gives,
+        simp length-append at (ap length so_far.1.1),
+        simp length-append at (ap length c.in-Some.ensures.steps),
+        length-any x.address (answer_of x.answer) x.byte,
+      )),
+    )
 
-pub overflow_add-at : goal.overflow_add-at
-overflow_add-at c = let p = c.args.program.now in let l = c.loop-at in
-    let d : decoded_answer c.decode_by-d.result ≡ decode_of p l.at = c.decode_by-d.ensures in
-    let s = step_fits p l.at c.requires.1 c.loop-at-test.true in
-    let e : c.step_of-at.result ≡ step_of (decode_of p l.at) = c.step_of-at.ensures ∙ ap step_of d in
-    omega (arith, e)
-
-pub loop-at-smaller : goal.loop-at-smaller
-loop-at-smaller c = let p = c.args.program.now in let l = c.loop-at in
-    let d : decoded_answer c.decode_by-d.result ≡ decode_of p l.at = c.decode_by-d.ensures in
-    let s = step_fits p l.at c.requires.1 c.loop-at-test.true in
-    let e : c.step_of-at.result ≡ step_of (decode_of p l.at) = c.step_of-at.ensures ∙ ap step_of d in
-    omega (arith, e)
-
-pub loop-at-preserved : goal.loop-at-preserved
-loop-at-preserved c = let p = c.args.program.now in let l = c.loop-at in
-    let d : decoded_answer c.decode_by-d.result ≡ decode_of p l.at = c.decode_by-d.ensures in
-    let s = step_fits p l.at c.requires.1 c.loop-at-test.true in
-    let e : c.step_of-at.result ≡ step_of (decode_of p l.at) = c.step_of-at.ensures ∙ ap step_of d in
-    let x = lines_step p l.at c.requires.1 c.loop-at-test.true in
-    let z = rw length-append at (ap length x) in
-    let w : Put (line_of l.at (decode_of p l.at) (get_or p l.at 0)) l.room l.next _ _ = rw d at c.put_line-next.ensures in
-    (omega arith, omega arith, rw e (omega (arith, w.next)), rw e (lines-put _ _ _ _ _ _ _ _ w x l.invariant.3))
-
-pub returns : goal.returns
-returns c = let p = c.args.program.now in let l = c.loop-at in let h : l.at ≡ length p = omega arith in rw (lines_end p l.at h) at l.invariant.3
+pub loop-place-preserved : goal.loop-place-preserved
+loop-place-preserved c =
+    let so_far = c.loop-place.invariant.so_far in
+    record {
+      can = tt;
+      ends = tt;
+      so_far = (so_far.0 ++ text_of c.in-Some.place, (puts-append so_far.1.0 (c.put_line.ensures number_of), rw (append_assoc, ← c.in-Some.ensures.steps) so_far.1.1));
+    }

@@ -1,14 +1,15 @@
 -- `listing::put_lines` meets its contract.
 -- Assumes nothing.
-use Prim.Native.Nat.{◌+◌, ◌-◌, ◌≤◌}
 use mathlib.Core.Path.{◌≡◌}
-use lib.ListN.{length, drop}
-use lib.Seq.{sets}
-use Rattle.listing.specs.Listing.{lines_of, listing_of}
+use Prim.Native.Nat.{ℕ}
+use mathlib.Core.List.{List, ◌++◌}
+use Rattle.text.specs.Pen.{Puts}
+use Rattle.listing.specs.Walk.{left}
 use Rattle.listing.proofs.put_lines.Given as goal
 
-abbrev pub invariant-loop-at : goal.invariant-loop-at
-invariant-loop-at l = (l.at ≤ length l.program) × (length l.room ≡ length l.initial.room) × (l.next + length (lines_of 0 l.at (drop l.at l.program)) ≤ length l.room) × (sets l.room l.next (lines_of 0 l.at (drop l.at l.program)) ≡ sets l.initial.room 0 (listing_of l.program))
-
-abbrev pub decreases-loop-at : goal.decreases-loop-at
-decreases-loop-at l = length l.program - l.at
+abbrev pub invariant-loop-place : goal.invariant-loop-place
+invariant-loop-place l = record {
+  can : goal.iterator-loop-place.can_next l.place-iterator;
+  ends : goal.iterator-loop-place.is_finite l.place-iterator;
+  so_far : (xs : List ℕ) × (Puts xs l.initial.pen l.pen × (xs ++ left l.place-iterator ≡ left l.initial.place-iterator));
+}

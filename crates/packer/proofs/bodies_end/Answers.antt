@@ -1,23 +1,19 @@
 -- `packer::bodies_end` meets its contract.
 -- Assumes nothing.
 use native.Mathlib.Omega.{arith}
-use mathlib.Core.Path.{sym, ◌∙◌}
-use lib.ListN.{get_or}
+use mathlib.Core.Path.{sym}
 use Rattle.pack.proofs.Walks.{passed}
-use Rattle.packer.specs.Write.{entry_of}
 use Rattle.packer.proofs.Lists.{alike-shown, lists-refused, lists-next}
 use Rattle.packer.proofs.bodies_end.Goals as goal
 
-pub returns-then-refusal-ne0 : goal.returns-then-refusal-ne0
-returns-then-refusal-ne0 c = let l = c.loop-i in
-    let a = c.args in
-    lists-refused a.tags.now a.cells.now a.lengths.now (alike-shown a.tags.now a.cells.now a.lengths.now c.requires) l.i (omega arith) l.least l.end c.refusal_of-refusal.result _ c.refusal_of-refusal.ensures l.invariant.3 c.if-refusal-ne0.true
+pub returns-in-Some : goal.returns-in-Some
+returns-in-Some c = let l = c.loop-index in
+    let a = c.args.entries.now in
+    lists-refused a.tags.now a.cells.now a.lengths.now (alike-shown a.tags.now a.cells.now a.lengths.now a.alike) l.index c.loop-index-test.true
+    l.least l.end c.at-e.result _ c.at-e.ensures l.invariant.2 c.in-Some.why c.in-Some.ensures
 
-pub loop-i-preserved : goal.loop-i-preserved
-loop-i-preserved c = let l = c.loop-i in
-    let a = c.args in
-    let i = l.i in
-    let g = alike-shown a.tags.now a.cells.now a.lengths.now c.requires in
-    let b = c.type_inv.tags i in
-    let p = passed l.least 0 (entry_of (get_or a.tags.now i 0) (get_or a.cells.now i 0) 0 (get_or a.lengths.now i 0)) (sym c.refusal_of-refusal.ensures ∙ c.if-refusal-ne0.false) in
-    (omega arith, omega arith, omega arith, lists-next a.tags.now a.cells.now a.lengths.now g i (omega arith) l.least l.end c.refusal_of-refusal.result _ c.refusal_of-refusal.ensures l.invariant.3 c.if-refusal-ne0.false)
+pub loop-index-preserved : goal.loop-index-preserved
+loop-index-preserved c = let l = c.loop-index in
+    let a = c.args.entries.now in
+    let p = passed l.least 0 c.at-e.result (sym c.in_default.ensures) in
+    (omega arith, omega arith, lists-next a.tags.now a.cells.now a.lengths.now (alike-shown a.tags.now a.cells.now a.lengths.now a.alike) l.index c.loop-index-test.true l.least l.end c.at-e.result _ c.at-e.ensures l.invariant.2 c.in_default.ensures)

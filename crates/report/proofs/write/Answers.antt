@@ -2,23 +2,18 @@
 -- Assumes nothing.
 use native.Mathlib.Omega.{arith}
 use Prim.Native.Nat.{◌≤◌}
-use mathlib.Core.Path.{◌≡◌, sym, ap, ◌∙◌}
-use lib.ListN.{length}
-use Rattle.basis.specs.Answer.{given}
+use mathlib.Core.Path.{◌≡◌, refl, sym}
+use lib.ListN.{length, take}
+use Rattle.std.proofs.Common.{rules}
 use Rattle.report.specs.Report.{report_of}
-use Rattle.report.proofs.Writes.{map-laid, no_room, fits, copied}
+use Rattle.report.proofs.Writes.{fits, copied}
 use Rattle.report.proofs.write.Goals as goal
 
-pub returns-then-room-n : goal.returns-then-room-n
-returns-then-room-n c = let a = c.args in let p = c.put_report-n.ensures in
-    let h : 16384 ≤ length a.map.now = c.if-map-lt16384.false in
-    let e = no_room a.pack.now a.map.now h (length a.room.now) (omega (arith, p.put.0.next)) in
-    record { result_value = rw e; room_after = rw e; map_after = p.map_after ∙ sym (map-laid a.pack.now a.map.now h) }
-
-pub returns : goal.returns
-returns c = let a = c.args in let p = c.put_report-n.ensures in
-    let h : 16384 ≤ length a.map.now = c.if-map-lt16384.false in
-    let m : c.put_report-n.result ≡ length (report_of a.pack.now) = omega (arith, p.put.0.next) in
-    let k : length (report_of a.pack.now) ≤ length a.room.now = omega (arith, p.put.0.next) in
-    let e = fits a.pack.now a.map.now h (length a.room.now) k in
-    record { result_value = rw e (ap given m); room_after = rw e (copied _ _ _ _ _ _ _ p.put.0 (omega (arith, p.put.0.next)) k c.put_text.ensures); map_after = p.map_after ∙ sym (map-laid a.pack.now a.map.now h) }
+pub returns-clause-room_after : goal.returns-clause-room_after
+returns-clause-room_after c = let a = c.args in
+    let pen = c.put_report.new.pen in
+    let p = c.put_report.ensures.put in
+    let same = sym p.0.same in
+    let n : pen.at ≡ length (report_of a.pack.now) = omega (arith, p.0.puts.next) in
+    let k : length (report_of a.pack.now) ≤ length a.room.now = omega arith in
+    rw (fits a.pack.now a.map.now (length a.room.now) c.if-map-lt16384.false k) (copied _ _ _ (take pen.at pen.room.now) a.room.now _ _ p.0.puts (omega (arith, p.1)) k refl (search rules))

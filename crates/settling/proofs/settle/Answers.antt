@@ -20,4 +20,4 @@ pub loop-now-preserved : goal.loop-now-preserved
 loop-now-preserved c = let l = c.loop-now in let a = c.args in
     let m = mach l.now a.contents.now a.body.now l.map l.verdicts in
     let e = c.judge-now.ensures in
-    (subst Fit (sym e) (judge-fit m l.invariant.0 c.loop-now-test.true), settle-next m _ l.invariant.1 c.loop-now-test.true _ c.number_at.ensures c.if-now-number_at.false _ e, omega arith, omega arith)
+    (subst Fit (sym e) (judge-fit m l.invariant.0 c.loop-now-test.true), settle-next m _ l.invariant.1 c.loop-now-test.true _ c.number_at.ensures c.if-now-number_at.true _ e, omega arith, omega arith)

@@ -1,4 +1,4 @@
--- `values::push_by_first` meets its contract: each arm is the push of its byte, and a byte without one has a flag of an absent value. Written by tools/dispatch.
+-- `values::push_by_first` meets its contract: each arm is the push of its byte, and a byte without one has a flag of an absent value.
 -- Assumes nothing.
 use native.Mathlib.Omega.{arith}
 use mathlib.Core.Path.{sym}

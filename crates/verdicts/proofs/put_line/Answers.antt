@@ -1,12 +1,12 @@
 -- `verdicts::put_line` meets its contract.
 -- Assumes nothing.
-use native.Mathlib.Omega.{arith}
-use Rattle.verifier.specs.Verify.{judged_in}
-use Rattle.verdicts.proofs.Lines.{length-said, put-line}
+use Rattle.text.proofs.Puts.{puts-append, puts-place}
+use Rattle.verdicts.specs.Line.{line_of}
 use Rattle.verdicts.proofs.put_line.Goals as goal
 
-pub put_text-requires : goal.put_text-requires
-put_text-requires c = omega (arith, c.put_said-end.ensures.next, c.put_hex-said.ensures.next, length-said (judged_in c.args.verdict))
+pub put-requires : goal.put-requires
+put-requires g c = c.put_said.ensures.place 1 (puts-place 20 c.put_hex.ensures c.requires)
 
 pub returns : goal.returns
-returns c = let a = c.args in put-line a.tag (judged_in a.verdict) c.put_hex-said.ensures c.put_said-end.ensures c.put_text.ensures
+unfolding line_of
+returns g c = λ number h. puts-append c.put_hex.ensures (puts-append (c.put_said.ensures.said number h) c.put.ensures)

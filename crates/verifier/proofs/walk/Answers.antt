@@ -1,22 +1,35 @@
 -- `verifier::walk` meets its contract: the loop keeps what the walk holds, and the count of addresses ahead falls.
 -- Assumes nothing.
-use native.Mathlib.Omega.{arith}
-use mathlib.Core.Path.{refl, ap, ◌∙◌}
+use mathlib.Core.Path.{◌≡◌, refl, ap, ◌∙◌}
 use lib.ListN.{length, length-set, length-replicate}
-use Rattle.verifier.proofs.Loops.{walking_start, walking-next, walking-refused, walking-accepted}
+use Rattle.std.specs.Prelude.{Some}
+use Rattle.verifier.proofs.Loops.{Walking, walking_start, walking-inside, walking-size, walking-next, walking-refused, walking-accepted}
 use Rattle.verifier.proofs.walk.Goals as goal
+use Rattle.verifier.proofs.walk.Goals.{In-Some}
 
-pub loop-at-init : goal.loop-at-init
-loop-at-init c = let p = c.requires in (walking_start c.args.program.now _ _ c.args.map.now _ _ refl p.cells_bound.2 p.cells_bound.1 p.map_value.0 p.map_value.1 p.map_value.2, refl, refl, refl)
+-- an address is due, and the map has a cell for each address
+walking : (c : In-Some) → Walking c.args.program.now c.args.cells c.loop-due.map c.loop-due.pending.words (Some c.in-Some.at)
+walking c = rw c.in-Some.is at c.loop-due.invariant.0
 
-pub loop-at-smaller : goal.loop-at-smaller
-loop-at-smaller c = (walking-next c.loop-at.invariant.0 (omega arith) _ _ _ c.examine.ensures.0 _ _ c.in-On.is c.take-at.ensures.0 c.take-at.ensures.1).1
+as_long : (c : In-Some) → length c.loop-due.map ≡ length c.args.program.now
+as_long c = c.loop-due.invariant.1 ∙ length-set c.args.map.now 0 _ ∙ ap length c.requires.map_value ∙ length-replicate (length c.args.program.now) 65535
 
-pub loop-at-preserved : goal.loop-at-preserved
-loop-at-preserved c = ((walking-next c.loop-at.invariant.0 (omega arith) _ _ _ c.examine.ensures.0 _ _ c.in-On.is c.take-at.ensures.0 c.take-at.ensures.1).0, c.examine.auto.map ∙ c.loop-at.invariant.1, c.take-at.auto.words ∙ c.examine.auto.words ∙ c.loop-at.invariant.2, c.take-at.auto.tops ∙ c.examine.auto.tops ∙ c.loop-at.invariant.3)
+pub loop-due-init : goal.loop-due-init
+loop-due-init c = let p = c.requires.cells_bound in (walking_start c.args.program.now _ _ c.args.map.now _ refl p.2 p.1 c.requires.map_value c.new-pending.ensures, refl)
 
-pub returns-in-Stop : goal.returns-in-Stop
-returns-in-Stop c = walking-refused c.loop-at.invariant.0 (omega arith) _ _ _ c.examine.ensures.0 _ c.in-Stop.is (length c.examine.new.map) _ c.wipe.ensures (c.examine.auto.map ∙ c.loop-at.invariant.1 ∙ length-set c.args.map.now 0 0 ∙ ap length c.requires.map_value.0 ∙ length-replicate (length c.args.program.now) 65535)
+pub examine-requires : goal.examine-requires
+examine-requires c = let s = (goal.at.examine-requires c).In-Some in let w = walking s in (c.requires.cells_bound.0, walking-inside w, walking-size w, as_long s)
+
+pub loop-due-smaller : goal.loop-due-smaller
+loop-due-smaller c = rw c.in-Some.is (walking-next (walking (goal.at.loop-due-smaller c).In-Some) _ _ _ _ c.in-Ok.ensures c.take-due.ensures).1
+
+pub loop-due-preserved : goal.loop-due-preserved
+loop-due-preserved c = ((walking-next (walking (goal.at.loop-due-preserved c).In-Some) _ _ _ _ c.in-Ok.ensures c.take-due.ensures).0, c.examine.auto.map ∙ c.loop-due.invariant.1)
+
+pub returns-in-Err : goal.returns-in-Err
+returns-in-Err c =
+    let s = (goal.at.returns-in-Err c).In-Some in
+    walking-refused (walking s) c.examine.new.map c.examine.new.pending.words _ c.in-Err.ensures (length c.examine.new.map) _ (c.fill.ensures.after (λ y e. e)) (c.examine.auto.map ∙ as_long s)
 
 pub returns : goal.returns
-returns c = walking-accepted c.loop-at.invariant.0 (omega arith)
+returns c = walking-accepted (rw c.in_default.is at c.loop-due.invariant.0)

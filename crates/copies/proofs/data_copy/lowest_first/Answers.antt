@@ -1,33 +1,22 @@
--- `copies::data_copy::lowest_first` meets its contract. The invariant, down or to a range apart: what is left to copy, of the bytes as they stood
--- at first, leaves what the whole copy leaves, and those still to be read stand as at first. The measure is the number of bytes left.
+-- `copies::data_copy::lowest_first` meets its contract: a byte copied leaves the invariant of the loop.
 -- Assumes nothing.
 use Prim.Native.Nat.{◌+◌, ◌-◌}
-use mathlib.Core.Path.{sym, ◌∙◌}
+use mathlib.Core.Path.{◌≡◌, sym, ◌∙◌}
 use mathlib.Core.Logic.{⊎_elim}
 use native.Mathlib.Omega.{arith}
-use lib.ListN.{length-set}
 use lib.Seq.{get_or-set_other}
 use Rattle.copies.proofs.Copies.{copied-first}
 use Rattle.copies.proofs.data_copy.lowest_first.Goals as goal
 
-pub loop-source-preserved : goal.loop-source-preserved
-loop-source-preserved c =
-    let l = c.loop-source in
-    let a = c.args in (
-      omega arith,
-      (
-        omega arith,
-        (
-          omega arith,
-          (
-            simp length-set (omega arith),
-            λ o.
-                let i = l.invariant.1.1.1.1 o in (
-                  (λ q h k. get_or-set_other l.«data» l.target q _ 0 (λ e. ⊎_elim (λ r. omega arith) (λ r. omega arith) o) ∙ i.0 q (omega arith) k),
-                  rw (i.0 l.source (omega arith) (omega arith))
-                      (sym (copied-first a.«data».now (a.from + a.count - l.source) (a.from + a.count - (l.source + 1)) l.target l.source l.«data» (omega arith) (omega arith)) ∙ i.1),
-                ),
-          ),
-        ),
-      ),
+pub loop-k-preserved : goal.loop-k-preserved
+loop-k-preserved c =
+    let l = c.loop-k in
+    let a = c.args in
+    let e : a.to + (l.k + 1) ≡ a.to + l.k + 1 = omega arith in
+    let f : a.from + (l.k + 1) ≡ a.from + l.k + 1 = omega arith in
+    λ o.
+    let i = l.invariant o in (
+      (λ q h k. get_or-set_other l.«data» (a.to + l.k) q _ 0 (λ e. ⊎_elim (λ r. omega arith) (λ r. omega arith) o) ∙ i.0 q (omega arith) k),
+      rw (i.0 (a.from + l.k) (omega arith) (omega arith), e, f)
+          (sym (copied-first a.«data».now (a.count - l.k) (a.count - (l.k + 1)) (a.to + l.k) (a.from + l.k) l.«data» (omega arith) (omega arith)) ∙ i.1),
     )

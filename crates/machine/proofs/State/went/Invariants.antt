@@ -1,4 +1,4 @@
--- `machine::State::went` meets its contract; the loop's invariant and its measure come first.
+-- `machine::State::went` meets its contract; the loop's invariant and its measure.
 -- Assumes nothing.
 use Rattle.machine.specs.Machine.{machine}
 use Rattle.machine.proofs.Loop.{Under}

@@ -1,2 +1,0 @@
--- The laws of `alu`.
-pub mod Products

@@ -1,2 +1,0 @@
--- The laws of `face_admission`.
-pub mod Faces

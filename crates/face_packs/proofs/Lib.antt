@@ -1,0 +1,2 @@
+-- The laws of `face_packs`.
+pub mod Entries

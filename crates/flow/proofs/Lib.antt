@@ -1,2 +1,0 @@
--- The laws of `flow`.
-pub mod Branches

@@ -1,2 +1,0 @@
--- The laws of `memory`.
-pub mod Accesses
