@@ -195,6 +195,24 @@ class Promises(Case):
         self.assertEqual(len(self.wrong("mod m {\n" + exported + "}\n")), 1)
         self.assertEqual(len(self.wrong(public.replace("requires", "requires small"))), 1)
 
+    def test_ghost_fields(self):
+        """A value that its caller makes, and whose ghost field it proves, asks as a `requires` does; a value that the crate alone can make does not."""
+        made = "pub struct Rows<'a> {\n    pub rows: &'a [u8],\n    ghost table: { rows.now ≡ all },\n}\n"
+        for function, name in (("pub fn f(n: u8, rows: &Rows) -> u8 ensures { result ≡ n } { n }\n", "one::f"),
+                               ("pub fn f<T>(n: T, rows: Option<Rows<'_>>) -> T\nwhere\n    T: Copy,\n    ensures { result ≡ n }\n{ n }\n", "one::f"),
+                               ("pub fn f<F: Fn(u8) -> u8>(f: F, g: impl Fn(u8) -> u8, rows: Rows) -> u8 ensures { result ≡ 1 } { 1 }\n", "one::f"),
+                               ("impl Rows<'_> {\n    pub fn f(self, n: u8) -> u8 ensures { result ≡ n } { n }\n}\n", "one::Rows::f"),
+                               ("impl Rows<'_> {\n    pub fn f(&self) -> u8 ensures { result ≡ 1 } { 1 }\n}\n", "one::Rows::f")):
+            self.assertEqual(len(self.wrong(made + function)), 1, msg=function)
+            self.assertEqual(self.wrong(made + function, [name]), [], msg=function)
+            self.assertEqual(len(self.wrong(made.replace("    ghost", "    pub ghost") + function)), 1, msg=function)
+            for other in (made.replace("pub rows", "rows"), made.replace("    ghost table: { rows.now ≡ all },\n", "")):
+                self.assertEqual(self.wrong(other + function), [], msg=other + function)
+        exported = '#[unsafe(no_mangle)]\npub extern "C" fn f(rows: Rows) -> u8 ensures { result ≡ 1 } { 1 }\n'
+        self.assertEqual(len(self.wrong(made + exported, ["one::f"])), 1)
+        for function in ("pub fn f<F: Fn(u8) -> u8>(f: F) -> Option<Rows<'static>> ensures { result ≡ n } { n }\n", "pub fn f(n: u8) -> Rows<'static> ensures { result ≡ n } { n }\n", "impl Rows<'_> {\n    pub fn f(n: u8) -> u8 ensures { result ≡ n } { n }\n}\n"):
+            self.assertEqual(self.wrong(made + function), [], msg=function)
+
     def test_no_promise(self):
         self.assertEqual(len(self.wrong("pub fn f() {}\n")), 1)
         for ensured, wrong in (("a.old ≡ a.old", 1), ("b.a.new ≡ a.old", 1), ("a.newer ≡ a.old", 1), ("a.new ≡ a.old", 0), ("length (a.new) ≡ 1", 0), ("«a».new ≡ a.old", 0)):
