@@ -9,8 +9,8 @@ ghost use Rattle.pending.specs.Sets.{held, Joined, Gone, First, Topped, Beside, 
 // Stays: digits in words, and no set of the library's: what the C library contains takes no heap.
 #[derive(Drop)]
 pub struct Pending {
-    words: [u64; 256],
-    tops: [u64; 4],
+    pub words: [u64; 256],
+    pub tops: [u64; 4],
     ghost topped: { Topped words tops },
 }
 
