@@ -1,7 +1,9 @@
 -- `verifier::walk` meets its contract: the loop keeps what the walk holds, and the count of addresses ahead falls.
 -- Assumes nothing.
+use Prim.Native.Nat.{ℕ, zero, suc}
 use mathlib.Core.Path.{◌≡◌, refl, ap, ◌∙◌}
-use lib.ListN.{length, length-set, length-replicate}
+use mathlib.Core.List.{List, ◌∷◌}
+use lib.ListN.{length, set, replicate, length-set, length-replicate}
 use Rattle.std.specs.Prelude.{Some}
 use Rattle.verifier.proofs.Loops.{Walking, walking_start, walking-inside, walking-size, walking-next, walking-refused, walking-accepted}
 use Rattle.verifier.proofs.walk.Goals as goal
@@ -26,10 +28,20 @@ loop-due-smaller c = rw c.in-Some.is (walking-next (walking (goal.at.loop-due-sm
 pub loop-due-preserved : goal.loop-due-preserved
 loop-due-preserved c = ((walking-next (walking (goal.at.loop-due-preserved c).In-Some) _ _ _ _ c.in-Ok.ensures c.take-due.ensures).0, c.examine.auto.map ∙ c.loop-due.invariant.1)
 
+-- a wiped map stays so where 65,535 is written once more
+wiped-set : (n i : ℕ) → set {A = ℕ} (replicate n 65535) i 65535 ≡ replicate n 65535
+wiped-set zero i = refl
+wiped-set (suc n) zero = refl
+wiped-set (suc n) (suc i) = ap (λ (r : List ℕ). 65535 ∷ r) (wiped-set n i)
+
+wiped-again : (xs : List ℕ) (n i : ℕ) → xs ≡ replicate n 65535 → set xs i 65535 ≡ replicate n 65535
+wiped-again xs n i e = rw e (wiped-set n i)
+
 pub returns-in-Err : goal.returns-in-Err
 returns-in-Err c =
     let s = (goal.at.returns-in-Err c).In-Some in
-    walking-refused (walking s) c.examine.new.map c.examine.new.pending.words _ c.in-Err.ensures (length c.examine.new.map) _ (c.fill.ensures.after (λ y e. e)) (c.examine.auto.map ∙ as_long s)
+    let wiped = c.fill.ensures.after (λ y e. e) in
+    walking-refused (walking s) c.examine.new.map c.examine.new.pending.words _ c.in-Err.ensures (length c.examine.new.map) _ (search (wiped, wiped-again)) (c.examine.auto.map ∙ as_long s)
 
 pub returns : goal.returns
 returns c = walking-accepted (rw c.in_default.is at c.loop-due.invariant.0)
