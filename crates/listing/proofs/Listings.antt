@@ -63,8 +63,8 @@ module _ (w : Walk) (a : Result Reading Refusal) (n : ℕ) (g : w.at < length w.
   pub step-inside : (1 ≤ n) × (w.at + n ≤ length w.program.now)
   step-inside = rw (e, d) (step_fits w.program.now w.at w.within g)
 
-  pub left-first : left w ≡ line_of w.at (answer_of a) (get_or w.program.now w.at 0) ++ lines_of 0 (w.at + n) (drop (w.at + n) w.program.now)
-  left-first = rw (e, d) (lines_step w.program.now w.at w.within g)
+  pub left-first : (b : ℕ) → b ≡ get_or w.program.now w.at 0 → left w ≡ line_of w.at (answer_of a) b ++ lines_of 0 (w.at + n) (drop (w.at + n) w.program.now)
+  left-first b f = rw (f, e, d) (lines_step w.program.now w.at w.within g)
 
 pub left-none : (w : Walk) → length w.program.now ≤ w.at → left w ≡ []
 unfolding lines_of

@@ -17,8 +17,8 @@ overflow_add-self c =
 
 pub returns-clause-steps : goal.returns-clause-steps
 returns-clause-steps c =
-    let first = left-first c.args.self.now c.decode_by-answer.result _ (ltb-true _ _ (sym c.in_ok-byte.ensures.lookup.0)) c.decode_by-answer.ensures (c.step_of.ensures number_of) in
-    rw (c.in_ok-byte.ensures.lookup.3.1 0) first
+    let here = c.in_ok-byte.ensures.lookup.3.1 0 in
+    left-first c.args.self.now c.decode_by-answer.result _ (ltb-true _ _ (sym c.in_ok-byte.ensures.lookup.0)) c.decode_by-answer.ensures (c.step_of.ensures number_of) _ (omega (arith, here))
 
 pub returns-clause-goes : goal.returns-clause-goes
 returns-clause-goes c =
