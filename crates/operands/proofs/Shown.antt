@@ -41,6 +41,23 @@ pub length-operands : (i : Instruction) → length (operands_of i) ≡
 unfolding operands_of
 length-operands i = simp length-append
 
+-- they are as long whatever the values
+length-alike : (i j : Instruction) → i.code ≡ j.code → i.count ≡ j.count → i.flags ≡ j.flags → length (operands_of i) ≡ length (operands_of j)
+length-alike i j c n f =
+    rw (length-operands i, length-operands j, c, n, f) (omega (
+      arith,
+      length-operand (shown_in (form_of j.code)) i.number,
+      length-operand (shown_in (form_of j.code)) j.number,
+      length-operand (width0 j.count j.flags) i.v0,
+      length-operand (width0 j.count j.flags) j.v0,
+      length-operand (width1 j.count j.flags) i.v1,
+      length-operand (width1 j.count j.flags) j.v1,
+      length-operand (width2 j.count j.flags) i.v2,
+      length-operand (width2 j.count j.flags) j.v2,
+      length-operand (width3 j.count j.flags) i.v3,
+      length-operand (width3 j.count j.flags) j.v3,
+    ))
+
 -- the operands of a list, one after the other
 abbrev pub all_of : List (ℕ × ℕ) → List ℕ
 all_of [] = []
@@ -80,13 +97,17 @@ module _ (i : Instruction) (xs : List (ℕ × ℕ)) (k : ℕ) (e : xs ≡ sized_
   pub all-more : k < 5 → all_of (take (k + 1) xs) ≡ all_of (take k xs) ++ operand_of (get_or xs k (0, 0)).0 (get_or xs k (0, 0)).1
   all-more h = rw add-one (more xs k (omega (arith, ap length e)))
 
-  pub all-within : k < 5 → length (all_of (take k xs)) + length (operand_of (get_or xs k (0, 0)).0 0) ≤ length (operands_of i)
-  all-within h = omega (
+  -- also in the place of an instruction with other values
+  pub all-within :
+      (j : Instruction) → i.code ≡ j.code → i.count ≡ j.count → i.flags ≡ j.flags → k < 5
+      → length (all_of (take k xs)) + length (operand_of (get_or xs k (0, 0)).0 0) ≤ length (operands_of j)
+  all-within j c n f h = omega (
     arith,
     simp length-append at (ap length (all-more h)),
     length-operand (get_or xs k (0, 0)).0 (get_or xs k (0, 0)).1,
     within xs (k + 1),
     ap length (ap all_of e ∙ all-operands i),
+    length-alike i j c n f,
   )
 
   pub all-done : 5 ≤ k → all_of (take k xs) ≡ operands_of i
