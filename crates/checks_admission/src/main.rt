@@ -5,9 +5,9 @@
 #![tactic(auto)]
 
 use admission::Admission;
-use std::alloc::{AllocError, Global};
 use std::io;
-use vectors::{Case, pieces};
+use vectors::said::Refused;
+use vectors::{Case, pieces, rooms};
 
 #[derive(Clone, Copy)]
 enum Event {
@@ -31,22 +31,22 @@ impl From<u16> for Event {
 struct Coming<'a> {
     admission: Admission,
     bytes: Case<'a>,
-    contents: Vec<u8>,
-    body: Vec<u8>,
-    map: Vec<u16>,
-    verdicts: Vec<u16>,
+    contents: [u8; 514],
+    body: [u8; 16384],
+    map: [u16; 16384],
+    verdicts: [u16; 192],
 }
 
 impl<'a> Coming<'a> {
-    fn new(alloc: Global, bytes: &'a [u8]) -> Result<Coming<'a>, AllocError> {
-        Ok(Coming {
+    fn new(bytes: &'a [u8]) -> Coming<'a> {
+        Coming {
             admission: admission::start(),
             bytes: Case::new(bytes),
-            contents: vec![in alloc; 0; 514]?,
-            body: vec![in alloc; 0; 16384]?,
-            map: vec![in alloc; 0; 16384]?,
-            verdicts: vec![in alloc; 0; 192]?,
-        })
+            contents: [0; 514],
+            body: [0; 16384],
+            map: [0; 16384],
+            verdicts: [0; 192],
+        }
     }
 
     // The number of what refuses an event, 0 for nothing.
@@ -84,7 +84,7 @@ impl<'a> Coming<'a> {
     fn say(&self, rt: &impl Print, event: Event, refusal: usize) -> io::Result<()> {
         match event {
             Event::Ask if self.admission.closed == 0 => print!(rt; "open"),
-            _ if refusal != 0 => print!(rt; "refused {refusal}"),
+            _ if refusal != 0 => rt.print(Refused(refusal)),
             Event::Chunk(_) => print!(rt; "ok"),
             Event::Ask | Event::Close => self.say_verdicts(rt),
         }
@@ -102,9 +102,9 @@ impl<'a> Coming<'a> {
     }
 }
 
-fn ask_admission<R: Print + AllocGlobal>(rt: &R, case: &mut Case<'_>) -> io::Result<()> {
-    let bytes = pieces::lay(rt.alloc(), case)?;
-    let mut coming = Coming::new(rt.alloc(), &bytes)?;
+fn ask_admission(rt: &impl Print, case: &mut Case<'_>, room: &mut [u8]) -> io::Result<()> {
+    let reach = pieces::lay(case, room);
+    let mut coming = Coming::new(&room[..reach]);
     for i in 0..case.number() {
         if i > 0 {
             print!(rt; " ; ")?;
@@ -117,14 +117,20 @@ fn ask_admission<R: Print + AllocGlobal>(rt: &R, case: &mut Case<'_>) -> io::Res
 }
 
 // The answer to a case; whether there is its kind.
-fn ask<R: Print + AllocGlobal>(rt: &R, kind: u8, case: &mut Case<'_>) -> io::Result<bool> {
+fn ask(
+    rt: &impl Print,
+    kind: u8,
+    case: &mut Case<'_>,
+    room: &mut [u8],
+) -> io::Result<bool> {
     match kind {
-        b'A' => ask_admission(rt, case)?,
+        b'A' => ask_admission(rt, case, room)?,
         _ => return Ok(false),
     }
     Ok(true)
 }
 
 fn main(rt: HostRuntime) -> io::Result<()> {
-    vectors::run_cases(&rt, |kind, case| ask(&rt, kind, case))
+    let mut room = rooms::bytes();
+    vectors::run_cases(&rt, |kind, case| ask(&rt, kind, case, &mut room))
 }

@@ -6,7 +6,7 @@
 use isa::Instruction;
 use std::io;
 use vectors::said::{Decoded, Memory, Written};
-use vectors::{Case, LONGEST};
+use vectors::{Case, LONGEST, rooms};
 
 fn ask_decoder(rt: &impl Print, case: &mut Case<'_>) -> io::Result<()> {
     let n = case.number();
@@ -28,12 +28,13 @@ fn instruction(case: &mut Case<'_>) -> Instruction {
     }
 }
 
-fn ask_encoder<R: Print + AllocGlobal>(rt: &R, case: &mut Case<'_>) -> io::Result<()> {
+fn ask_encoder(rt: &impl Print, case: &mut Case<'_>, room: &mut [u8]) -> io::Result<()> {
     let i = instruction(case);
     let n = usize::from(case.number());
-    let mut room = vectors::repeated::<u8>(rt.alloc(), case.part(n), n)?;
-    rt.print(Written(encoder::encode(i, &mut room)))?;
-    print!(rt; " {}", Memory(&room, LONGEST))
+    let end = vectors::fill(case.part(n), n, room);
+    let room = &mut room[..end];
+    rt.print(Written(encoder::encode(i, room)))?;
+    print!(rt; " {}", Memory(room, LONGEST))
 }
 
 fn ask_shapes(rt: &impl Print, case: &mut Case<'_>) -> io::Result<()> {
@@ -44,10 +45,15 @@ fn ask_shapes(rt: &impl Print, case: &mut Case<'_>) -> io::Result<()> {
 }
 
 // The answer to a case; whether there is its kind.
-fn ask<R: Print + AllocGlobal>(rt: &R, kind: u8, case: &mut Case<'_>) -> io::Result<bool> {
+fn ask(
+    rt: &impl Print,
+    kind: u8,
+    case: &mut Case<'_>,
+    room: &mut [u8],
+) -> io::Result<bool> {
     match kind {
         b'D' => ask_decoder(rt, case)?,
-        b'E' => ask_encoder(rt, case)?,
+        b'E' => ask_encoder(rt, case, room)?,
         b'S' => ask_shapes(rt, case)?,
         _ => return Ok(false),
     }
@@ -55,5 +61,6 @@ fn ask<R: Print + AllocGlobal>(rt: &R, kind: u8, case: &mut Case<'_>) -> io::Res
 }
 
 fn main(rt: HostRuntime) -> io::Result<()> {
-    vectors::run_cases(&rt, |kind, case| ask(&rt, kind, case))
+    let mut room = rooms::bytes();
+    vectors::run_cases(&rt, |kind, case| ask(&rt, kind, case, &mut room))
 }

@@ -7,14 +7,21 @@
 
 use std::io;
 use vectors::said::{Decoded, Memory, Written};
-use vectors::{Case, SHEET, pieces};
+use vectors::{Case, pieces, rooms};
 
-fn ask_listing<R: Print + AllocGlobal>(rt: &R, case: &mut Case<'_>) -> io::Result<()> {
-    let program = pieces::lay(rt.alloc(), case)?;
-    let size = case.long() as usize;
-    let mut room = case.memory::<u8>(rt.alloc(), size.min(SHEET))?;
-    rt.print(Written(listing::list(&program, &mut room)))?;
-    print!(rt; " {}", Memory(&room, 256))
+// The program and the room stand in the rooms that are lent for them.
+fn ask_listing(
+    rt: &impl Print,
+    case: &mut Case<'_>,
+    program: &mut [u8],
+    room: &mut [u8],
+) -> io::Result<()> {
+    let reach = pieces::lay(case, program);
+    let size = case.long();
+    let end = case.memory(size as usize, room);
+    let room = &mut room[..end];
+    rt.print(Written(listing::list(&program[..reach], room)))?;
+    print!(rt; " {}", Memory(room, 256))
 }
 
 // What stands at an address, and the next; at the start it is the first that a new reader gives.
@@ -30,29 +37,40 @@ fn ask_reader(rt: &impl Print, program: &[u8], at: usize) -> io::Result<usize> {
 }
 
 // A reader asked so often, and where it then stands.
-fn ask_often<R: Print + AllocGlobal>(rt: &R, case: &mut Case<'_>) -> io::Result<()> {
+fn ask_often(rt: &impl Print, case: &mut Case<'_>, room: &mut [u8]) -> io::Result<()> {
     let often = case.number();
-    let program = pieces::lay(rt.alloc(), case)?;
+    let reach = pieces::lay(case, room);
+    let program = &room[..reach];
     let mut at = 0;
     for time in 0..often {
         if time > 0 {
             print!(rt; " ; ")?;
         }
-        at = ask_reader(rt, &program, at)?;
+        at = ask_reader(rt, program, at)?;
     }
     print!(rt; " @ {at}")
 }
 
 // The answer to a case; whether there is its kind.
-fn ask<R: Print + AllocGlobal>(rt: &R, kind: u8, case: &mut Case<'_>) -> io::Result<bool> {
+fn ask(
+    rt: &impl Print,
+    kind: u8,
+    case: &mut Case<'_>,
+    program: &mut [u8],
+    room: &mut [u8],
+) -> io::Result<bool> {
     match kind {
-        b'L' => ask_listing(rt, case)?,
-        b'N' => ask_often(rt, case)?,
+        b'L' => ask_listing(rt, case, program, room)?,
+        b'N' => ask_often(rt, case, program)?,
         _ => return Ok(false),
     }
     Ok(true)
 }
 
 fn main(rt: HostRuntime) -> io::Result<()> {
-    vectors::run_cases(&rt, |kind, case| ask(&rt, kind, case))
+    let mut program = rooms::bytes();
+    let mut room = rooms::sheet();
+    vectors::run_cases(&rt, |kind, case| {
+        ask(&rt, kind, case, &mut program, &mut room)
+    })
 }

@@ -8,7 +8,7 @@
 use machine::{Ran, State, Status, Unrun};
 use std::io;
 use vectors::said::{Memory, Refused};
-use vectors::{Case, LONGEST};
+use vectors::{Case, LONGEST, rooms};
 
 fn say_state(rt: &impl Print, state: State) -> io::Result<()> {
     print!(rt; " {} {}", state.address, state.depth)?;
@@ -26,7 +26,7 @@ fn say_answer(rt: &impl Print, answer: Result<Ran, Unrun>) -> io::Result<()> {
             say_state(rt, ran.state)
         }
         Err(unrun) => {
-            rt.print(Refused(unrun.refusal))?;
+            rt.print(Refused(usize::from(unrun.refusal)))?;
             say_state(rt, unrun.state)
         }
     }
@@ -50,33 +50,54 @@ fn state(case: &mut Case<'_>) -> State {
     }
 }
 
-// A budget of one asks the single step.
-fn ask_machine<R: Print + AllocGlobal>(rt: &R, case: &mut Case<'_>) -> io::Result<()> {
+// A budget of one asks the single step. The program, the data and the cells stand in the rooms that are lent for them.
+fn ask_machine(
+    rt: &impl Print,
+    case: &mut Case<'_>,
+    program: &mut [u8],
+    data: &mut [u8],
+    cells: &mut [u16],
+) -> io::Result<()> {
     let length = case.number();
-    let program = case.memory::<u8>(rt.alloc(), usize::from(length))?;
-    let length = case.long() as usize;
-    let mut data = case.memory::<u8>(rt.alloc(), length.min(LONGEST))?;
+    let end = case.memory(usize::from(length), program);
+    let program = &program[..end];
+    let length = case.long();
+    let end = case.memory(length as usize, data);
+    let data = &mut data[..end];
     let length = case.number();
-    let mut cells = case.memory::<u16>(rt.alloc(), usize::from(length))?;
+    let end = case.memory(usize::from(length), cells);
+    let cells = &mut cells[..end];
     let state = state(case);
     let answer = match case.long() {
-        1 => state.step(&program, &mut data, &mut cells),
-        budget => state.run(&program, &mut data, &mut cells, budget),
+        1 => state.step(program, data, cells),
+        budget => state.run(program, data, cells, budget),
     };
     say_answer(rt, answer)?;
-    print!(rt; " {}", Memory(&data, LONGEST))?;
-    print!(rt; " {}", Memory(&cells, LONGEST))
+    print!(rt; " {}", Memory(data, LONGEST))?;
+    print!(rt; " {}", Memory(cells, LONGEST))
 }
 
 // The answer to a case; whether there is its kind.
-fn ask<R: Print + AllocGlobal>(rt: &R, kind: u8, case: &mut Case<'_>) -> io::Result<bool> {
+fn ask(
+    rt: &impl Print,
+    kind: u8,
+    case: &mut Case<'_>,
+    program: &mut [u8],
+    data: &mut [u8],
+    cells: &mut [u16],
+) -> io::Result<bool> {
     match kind {
-        b'R' => ask_machine(rt, case)?,
+        b'R' => ask_machine(rt, case, program, data, cells)?,
         _ => return Ok(false),
     }
     Ok(true)
 }
 
 fn main(rt: HostRuntime) -> io::Result<()> {
-    vectors::run_cases(&rt, |kind, case| ask(&rt, kind, case))
+    let mut program = rooms::bytes();
+    let mut data = rooms::bytes();
+    let mut cells = rooms::cells();
+    vectors::run_cases(&rt, |kind, case| {
+        ask(&rt, kind, case, &mut program, &mut data, &mut cells)
+    })
 }

@@ -6,35 +6,54 @@
 
 use std::io;
 use vectors::said::{Memory, Refused};
-use vectors::{Case, LONGEST, pieces};
+use vectors::{Case, pieces, rooms};
 use verifier::Rejected;
 
 fn say_verdict(rt: &impl Print, verdict: Result<(), Rejected>) -> io::Result<()> {
     match verdict {
         Ok(()) => print!(rt; "accepted"),
-        Err(Rejected::Before(why)) => print!(rt; "{} -", Refused(why)),
-        Err(Rejected::At(why, address)) => print!(rt; "{} {address}", Refused(why)),
+        Err(Rejected::Before(why)) => print!(rt; "{} -", Refused(usize::from(why))),
+        Err(Rejected::At(why, address)) => {
+            print!(rt; "{} {address}", Refused(usize::from(why)))
+        }
     }
 }
 
-fn ask_verifier<R: Print + AllocGlobal>(rt: &R, case: &mut Case<'_>) -> io::Result<()> {
+// The map and the program stand in the rooms that are lent for them.
+fn ask_verifier(
+    rt: &impl Print,
+    case: &mut Case<'_>,
+    map: &mut [u16],
+    program: &mut [u8],
+) -> io::Result<()> {
     let cells = case.long() as usize;
-    let length = case.long() as usize;
-    let mut map = case.memory::<u16>(rt.alloc(), length.min(LONGEST))?;
-    let program = pieces::lay(rt.alloc(), case)?;
-    say_verdict(rt, verifier::verify(&program, cells, &mut map))?;
-    print!(rt; " {}", Memory(&map, 256))
+    let length = case.long();
+    let end = case.memory(length as usize, map);
+    let map = &mut map[..end];
+    let reach = pieces::lay(case, program);
+    say_verdict(rt, verifier::verify(&program[..reach], cells, map))?;
+    print!(rt; " {}", Memory(map, 256))
 }
 
 // The answer to a case; whether there is its kind.
-fn ask<R: Print + AllocGlobal>(rt: &R, kind: u8, case: &mut Case<'_>) -> io::Result<bool> {
+fn ask(
+    rt: &impl Print,
+    kind: u8,
+    case: &mut Case<'_>,
+    map: &mut [u16],
+    program: &mut [u8],
+) -> io::Result<bool> {
     match kind {
-        b'V' => ask_verifier(rt, case)?,
+        b'V' => ask_verifier(rt, case, map, program)?,
         _ => return Ok(false),
     }
     Ok(true)
 }
 
 fn main(rt: HostRuntime) -> io::Result<()> {
-    vectors::run_cases(&rt, |kind, case| ask(&rt, kind, case))
+    let mut map = rooms::cells();
+    let mut program = rooms::bytes();
+    vectors::run_cases(&rt, |kind, case| {
+        ask(&rt, kind, case, &mut map, &mut program)
+    })
 }

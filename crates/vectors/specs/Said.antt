@@ -5,12 +5,12 @@ use Rattle.std.specs.Fmt.{decimal, digits, format_spec, padded_integral}
 use Rattle.basis.specs.declared.refusal.Refusal.{Refusal}
 use Rattle.basis.specs.Refusal.{number_of}
 
-abbrev pub refused_text : Refusal → List ℕ
-refused_text why = codes "refused " ++ decimal (number_of why)
+abbrev pub refused_text : ℕ → List ℕ
+refused_text n = codes "refused " ++ decimal n
 
 abbrev pub written_text : Result ℕ Refusal → List ℕ
 written_text (Ok n) = codes "ok " ++ decimal n
-written_text (Err why) = refused_text why
+written_text (Err why) = refused_text (number_of why)
 
 -- a number with so many hexadecimal digits
 abbrev pub hex_text : ℕ → ℕ → List ℕ

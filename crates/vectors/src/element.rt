@@ -1,9 +1,9 @@
 // What a memory of a case is made of, and a memory filled.
-ghost use Rattle.std.specs.Prelude.{ℕ, ◌≡◌, ◌<◌, ◌≤◌, min, length, drop, vec_len, IfOk};
+ghost use Rattle.std.specs.Prelude.{ℕ, ◌≡◌, ◌+◌, ◌*◌, ◌<◌, ◌≤◌, min, length, drop};
 ghost use Rattle.std.proofs.Common.{rules};
+ghost use Rattle.basis.specs.Number.{number_at};
 
 use crate::Case;
-use std::alloc::{AllocError, Global};
 
 // A byte, or a cell of two bytes.
 pub trait Element: Copy {
@@ -73,13 +73,20 @@ impl Element for u16 {
     ghost short = { Prim.search rules };
 }
 
-// The first n elements of the room, or all that it has, hold those given, again and again, and the rest stays. How many those first are.
+// The first n elements of the room, or all that it has, hold those given, again and again, or 0 where none is given, and the rest stays. How many those
+// first are.
 pub fn fill<T: Element>(given: &[u8], n: usize, room: &mut [T]) -> usize
     ensures reach { result ≡ min n (length room.old) }
     ensures length { length room.new ≡ length room.old }
     ensures rest { drop result room.new ≡ drop result room.old }
 {
     let end = n.min(room.len());
+    if given.len() < T::SIZE {
+        for place in room[..end].iter_mut() {
+            *place = T::ZERO;
+        }
+        return end;
+    }
     let elements = given.chunks_exact(T::SIZE).cycle();
     for (place, element) in room[..end].iter_mut().zip(elements) {
         *place = T::next(&mut Case::new(element));
@@ -87,22 +94,20 @@ pub fn fill<T: Element>(given: &[u8], n: usize, room: &mut [T]) -> usize
     end
 }
 
-// A memory of n elements: those given, again and again.
-pub fn repeated<T: Element>(alloc: Global, given: &[u8], n: usize) -> Result<Vec<T>, AllocError>
-    ensures { IfOk result (λ v. vec_len v ≡ n) }
-{
-    let mut memory = vec![in alloc; T::ZERO; n]?;
-    fill(given, n, &mut memory);
-    Ok(memory)
-}
-
 impl Case<'_> {
-    // A memory of n elements: how many are given (two bytes), and those, again and again.
-    pub fn memory<T: Element>(&mut self, alloc: Global, n: usize) -> Result<Vec<T>, AllocError>
-        ensures { IfOk result (λ v. vec_len v ≡ n) }
+    // A memory of n elements at the beginning of the room: how many are given (two bytes), and those, again and again, or 0. Its length: n, or the
+    // room's if that is less.
+    pub fn memory<T: Element>(&mut self, n: usize, room: &mut [T]) -> usize
+        ensures reach { result ≡ min n (length room.old) }
+        ensures length { length room.new ≡ length room.old }
+        ensures rest { drop result room.new ≡ drop result room.old }
+        ensures same { self.new.bytes ≡ self.old.bytes }
+        ensures whole { self.old.at + 2 ≤ length self.old.bytes.now → self.new.at ≡ min (self.old.at + 2 + T.SIZE * number_at 2 self.old.bytes.now self.old.at) usize.MAX }
+        ensures cut { length self.old.bytes.now < self.old.at + 2 → self.new.at ≡ min (self.old.at + 2) usize.MAX }
     {
         let count = usize::from(self.number());
-        repeated(alloc, self.part(T::SIZE * count), n)
+        let given = self.part(T::SIZE * count);
+        fill(given, n, room)
     }
 }
 
@@ -113,10 +118,12 @@ mod tests {
 
     #[test]
     fn what_is_given_repeats(rt: HostRuntime) -> Result<(), Fail> {
-        let cells = repeated::<u16>(rt.alloc(), &[1, 2, 3, 4, 5], 3)?;
-        assert_eq!(rt; cells.as_slice(), [0x0201, 0x0403, 0x0201].as_slice());
-        let nothing_given = repeated::<u8>(rt.alloc(), &[], 2)?;
-        assert_eq!(rt; nothing_given.as_slice(), [0, 0].as_slice());
+        let mut cells = [7u16; 4];
+        assert_eq!(rt; fill(&[1, 2, 3, 4, 5], 3, &mut cells), 3);
+        assert_eq!(rt; cells.as_slice(), [0x0201, 0x0403, 0x0201, 7].as_slice());
+        let mut nothing_given = [7u8; 3];
+        assert_eq!(rt; fill(&[], 2, &mut nothing_given), 2);
+        assert_eq!(rt; nothing_given.as_slice(), [0, 0, 7].as_slice());
         Ok(())
     }
 
@@ -133,8 +140,9 @@ mod tests {
     #[test]
     fn two_cells_given(rt: HostRuntime) -> Result<(), Fail> {
         let mut case = Case::new(&[2, 0, 1, 2, 3, 4, 5]);
-        let cells = case.memory::<u16>(rt.alloc(), 3)?;
-        assert_eq!(rt; cells.as_slice(), [0x0201, 0x0403, 0x0201].as_slice());
+        let mut cells = [7u16; 4];
+        assert_eq!(rt; case.memory(3, &mut cells), 3);
+        assert_eq!(rt; cells.as_slice(), [0x0201, 0x0403, 0x0201, 7].as_slice());
         assert_eq!(rt; case.at, 6);
         Ok(())
     }

@@ -1,5 +1,5 @@
 // All cases on standard input asked.
-use crate::{Case, SHEET};
+use crate::{Case, rooms};
 use std::io;
 
 // Asks all cases, whose kinds are a byte before each, and ends the line of each. Where one is of no kind or cut, a line says so, and the cases end.
@@ -24,12 +24,12 @@ where
 }
 
 // Asks all cases on standard input. The asking is given a case's kind and the case behind that, prints the answer and says whether there is such a kind.
-pub fn run_cases<R: Input + Print + AllocGlobal, F>(rt: &R, ask: F) -> io::Result<()>
+pub fn run_cases<R: Input + Print, F>(rt: &R, ask: F) -> io::Result<()>
 where
     F: FnMut(u8, &mut Case<'_>) -> io::Result<bool>,
     requires { F.IsAlwaysCallable ask }
 {
-    let mut cases = vec![in rt.alloc(); 0u8; SHEET]?;
+    let mut cases = rooms::sheet();
     let n = input::read_full(&mut rt.reader(), &mut cases)?;
     ask_all(rt, &cases[..n], ask)
 }

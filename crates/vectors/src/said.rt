@@ -8,15 +8,15 @@ use basis::Refusal;
 use isa::Instruction;
 use std::fmt;
 
-// `refused N`
+// `refused N`, for any number
 #[derive(Clone, Copy)]
-pub struct Refused(pub Refusal);
+pub struct Refused(pub usize);
 
 impl fmt::Display for Refused {
     ghost output = { λ said. Some (refused_text said.0) };
 
     fn fmt<W: fmt::Write>(&self, f: &mut fmt::Formatter<W>) -> fmt::Result {
-        write!(f, "refused {}", usize::from(self.0))
+        write!(f, "refused {}", self.0)
     }
 }
 
@@ -30,7 +30,7 @@ impl fmt::Display for Written {
     fn fmt<W: fmt::Write>(&self, f: &mut fmt::Formatter<W>) -> fmt::Result {
         match self.0 {
             Ok(n) => write!(f, "ok {n}"),
-            Err(why) => write!(f, "{}", Refused(why)),
+            Err(why) => write!(f, "{}", Refused(usize::from(why))),
         }
     }
 }
@@ -47,7 +47,7 @@ impl fmt::Display for Decoded {
                 "ok {length} {} {} {} {} {} {} {} {}",
                 i.code, i.number, i.count, i.flags, i.v0, i.v1, i.v2, i.v3
             ),
-            Err(why) => write!(f, "{}", Refused(why)),
+            Err(why) => write!(f, "{}", Refused(usize::from(why))),
         }
     }
 }
