@@ -117,12 +117,7 @@ fn ask_admission(rt: &impl Print, case: &mut Case<'_>, room: &mut [u8]) -> io::R
 }
 
 // The answer to a case; whether there is its kind.
-fn ask(
-    rt: &impl Print,
-    kind: u8,
-    case: &mut Case<'_>,
-    room: &mut [u8],
-) -> io::Result<bool> {
+fn ask(rt: &impl Print, kind: u8, case: &mut Case<'_>, room: &mut [u8]) -> io::Result<bool> {
     match kind {
         b'A' => ask_admission(rt, case, room)?,
         _ => return Ok(false),

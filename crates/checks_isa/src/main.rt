@@ -45,12 +45,7 @@ fn ask_shapes(rt: &impl Print, case: &mut Case<'_>) -> io::Result<()> {
 }
 
 // The answer to a case; whether there is its kind.
-fn ask(
-    rt: &impl Print,
-    kind: u8,
-    case: &mut Case<'_>,
-    room: &mut [u8],
-) -> io::Result<bool> {
+fn ask(rt: &impl Print, kind: u8, case: &mut Case<'_>, room: &mut [u8]) -> io::Result<bool> {
     match kind {
         b'D' => ask_decoder(rt, case)?,
         b'E' => ask_encoder(rt, case, room)?,

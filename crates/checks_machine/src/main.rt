@@ -26,7 +26,7 @@ fn say_answer(rt: &impl Print, answer: Result<Ran, Unrun>) -> io::Result<()> {
             say_state(rt, ran.state)
         }
         Err(unrun) => {
-            rt.print(Refused(usize::from(unrun.refusal)))?;
+            rt.print(Refused::from(unrun.refusal))?;
             say_state(rt, unrun.state)
         }
     }

@@ -17,7 +17,7 @@ fn say_entries(rt: &impl Print, pack: &[u8], n: usize) -> io::Result<()> {
         match pack::entry_at(pack, i) {
             Ok(Some(e)) => print!(rt; " {} {} {} {}", e.tag, e.cells, e.offset, e.length)?,
             Ok(None) => print!(rt; " past")?,
-            Err(why) => rt.print(Refused(usize::from(why)))?,
+            Err(why) => rt.print(Refused::from(why))?,
         }
     }
     Ok(())
@@ -28,17 +28,12 @@ fn ask_check(rt: &impl Print, case: &mut Case<'_>, room: &mut [u8]) -> io::Resul
     let pack = &room[..reach];
     match pack::check(pack) {
         Ok(n) => say_entries(rt, pack, n),
-        Err(why) => rt.print(Refused(usize::from(why))),
+        Err(why) => rt.print(Refused::from(why)),
     }
 }
 
 // The entry that a tag finds, and its program.
-fn ask_program<F>(
-    rt: &impl Print,
-    case: &mut Case<'_>,
-    room: &mut [u8],
-    find: F,
-) -> io::Result<()>
+fn ask_program<F>(rt: &impl Print, case: &mut Case<'_>, room: &mut [u8], find: F) -> io::Result<()>
 where
     F: FnOnce(&[u8], u16) -> Result<Entry, Refusal>,
     requires { F.IsAlwaysCallable find }
@@ -51,7 +46,7 @@ where
             print!(rt; "found {} {} {}", e.cells, e.offset, e.length)?;
             print!(rt; " {}", Memory(pack::body(pack, e), 256))
         }
-        Err(why) => rt.print(Refused(usize::from(why))),
+        Err(why) => rt.print(Refused::from(why)),
     }
 }
 

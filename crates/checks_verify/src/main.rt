@@ -12,10 +12,8 @@ use verifier::Rejected;
 fn say_verdict(rt: &impl Print, verdict: Result<(), Rejected>) -> io::Result<()> {
     match verdict {
         Ok(()) => print!(rt; "accepted"),
-        Err(Rejected::Before(why)) => print!(rt; "{} -", Refused(usize::from(why))),
-        Err(Rejected::At(why, address)) => {
-            print!(rt; "{} {address}", Refused(usize::from(why)))
-        }
+        Err(Rejected::Before(why)) => print!(rt; "{} -", Refused::from(why)),
+        Err(Rejected::At(why, address)) => { print!(rt; "{} {address}", Refused::from(why)) }
     }
 }
 

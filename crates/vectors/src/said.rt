@@ -1,6 +1,7 @@
 // The words of an answer.
 ghost use Rattle.std.specs.Prelude.{Some, ◌*◌, ◌≡◌, map};
 ghost use Rattle.std.specs.List.{flat_map};
+ghost use Rattle.basis.specs.Refusal.{number_of};
 ghost use Rattle.vectors.specs.Said.{refused_text, written_text, hex_text, memory_text, checksum_of};
 
 use crate::Element;
@@ -20,6 +21,15 @@ impl fmt::Display for Refused {
     }
 }
 
+// By the number of a refusal.
+impl From<Refusal> for Refused {
+    ghost from_gives = { λ why said. said.0 ≡ number_of why };
+
+    fn from(why: Refusal) -> Refused {
+        Refused(usize::from(why))
+    }
+}
+
 // `ok N` or `refused N`
 #[derive(Clone, Copy)]
 pub struct Written(pub Result<usize, Refusal>);
@@ -30,7 +40,7 @@ impl fmt::Display for Written {
     fn fmt<W: fmt::Write>(&self, f: &mut fmt::Formatter<W>) -> fmt::Result {
         match self.0 {
             Ok(n) => write!(f, "ok {n}"),
-            Err(why) => write!(f, "{}", Refused(usize::from(why))),
+            Err(why) => write!(f, "{}", Refused::from(why)),
         }
     }
 }
@@ -47,7 +57,7 @@ impl fmt::Display for Decoded {
                 "ok {length} {} {} {} {} {} {} {} {}",
                 i.code, i.number, i.count, i.flags, i.v0, i.v1, i.v2, i.v3
             ),
-            Err(why) => write!(f, "{}", Refused(usize::from(why))),
+            Err(why) => write!(f, "{}", Refused::from(why)),
         }
     }
 }
