@@ -14,8 +14,6 @@ pub trait Element: Copy {
     // How many bytes it has.
     const SIZE: usize;
 
-    const ZERO: Self;
-
     // The number that it is.
     fn number(&self) -> u64
         ensures { (result ≡ value self.now) × (result < 65536) };
@@ -36,8 +34,6 @@ impl Element for u8 {
 
     const SIZE: usize = 1;
 
-    const ZERO: u8 = 0;
-
     fn number(&self) -> u64 {
         u64::from(*self)
     }
@@ -57,8 +53,6 @@ impl Element for u16 {
     ghost value = { λ n. n };
 
     const SIZE: usize = 2;
-
-    const ZERO: u16 = 0;
 
     fn number(&self) -> u64 {
         u64::from(*self)
@@ -81,9 +75,11 @@ pub fn fill<T: Element>(given: &[u8], n: usize, room: &mut [T]) -> usize
     ensures rest { drop result room.new ≡ drop result room.old }
 {
     let end = n.min(room.len());
-    if given.len() < T::SIZE {
+    // One is given, or none, which is read as 0.
+    if given.len() < 2 * T::SIZE {
+        let element = T::next(&mut Case::new(given));
         for place in room[..end].iter_mut() {
-            *place = T::ZERO;
+            *place = element;
         }
         return end;
     }
