@@ -17,7 +17,10 @@ as_long : (c : In-Some) → length c.loop-due.map ≡ length c.args.program.now
 as_long c = c.loop-due.invariant.1 ∙ length-set c.args.map.now 0 _ ∙ ap length c.requires.map_value ∙ length-replicate (length c.args.program.now) 65535
 
 pub loop-due-init : goal.loop-due-init
-loop-due-init c = let p = c.requires.cells_bound in (walking_start c.args.program.now _ _ c.args.map.now _ refl p.2 p.1 c.requires.map_value c.new-pending.ensures, refl)
+loop-due-init c =
+    let p = c.requires.cells_bound in
+    let start = walking_start c.args.program.now c.args.cells _ c.args.map.now c.new-pending.result.words refl p.2 p.1 c.requires.map_value c.new-pending.ensures in
+    (search start, refl)
 
 pub examine-requires : goal.examine-requires
 examine-requires c = let s = (goal.at.examine-requires c).In-Some in let w = walking s in (c.requires.cells_bound.0, walking-inside w, walking-size w, as_long s)
@@ -29,19 +32,17 @@ pub loop-due-preserved : goal.loop-due-preserved
 loop-due-preserved c = ((walking-next (walking (goal.at.loop-due-preserved c).In-Some) _ _ _ _ c.in-Ok.ensures c.take-due.ensures).0, c.examine.auto.map ∙ c.loop-due.invariant.1)
 
 -- a wiped map stays so where 65,535 is written once more
-wiped-set : (n i : ℕ) → set {A = ℕ} (replicate n 65535) i 65535 ≡ replicate n 65535
-wiped-set zero i = refl
-wiped-set (suc n) zero = refl
-wiped-set (suc n) (suc i) = ap (λ (r : List ℕ). 65535 ∷ r) (wiped-set n i)
-
-wiped-again : (xs : List ℕ) (n i : ℕ) → xs ≡ replicate n 65535 → set xs i 65535 ≡ replicate n 65535
-wiped-again xs n i e = rw e (wiped-set n i)
+wiped-again : (n i : ℕ) → set {A = ℕ} (replicate n 65535) i 65535 ≡ replicate n 65535
+wiped-again zero i = refl
+wiped-again (suc n) zero = refl
+wiped-again (suc n) (suc i) = ap (λ (r : List ℕ). 65535 ∷ r) (wiped-again n i)
 
 pub returns-in-Err : goal.returns-in-Err
 returns-in-Err c =
     let s = (goal.at.returns-in-Err c).In-Some in
-    let wiped = c.fill.ensures.after (λ y e. e) in
-    walking-refused (walking s) c.examine.new.map c.examine.new.pending.words _ c.in-Err.ensures (length c.examine.new.map) _ (search (wiped, wiped-again)) (c.examine.auto.map ∙ as_long s)
+    let n = length c.examine.new.map in
+    simp (c.fill.ensures.after (λ y e. e), wiped-again)
+    (walking-refused (walking s) c.examine.new.map c.examine.new.pending.words _ c.in-Err.ensures n (replicate n 65535) refl (c.examine.auto.map ∙ as_long s))
 
 pub returns : goal.returns
 returns c = walking-accepted (rw c.in_default.is at c.loop-due.invariant.0)
